@@ -1,7 +1,7 @@
 -- How a program runs where all answers are given, and how the serial machine runs it.
 use Rattle.std.specs.Prelude.{ℕ, ℤ, pos, negsuc, ◌+ℤ◌, ◌-ℤ◌, ◌-◌, ◌^◌, int_lt, int_le, Bool, true, false, ◌&&◌, List, [], ◌∷◌, ◌++◌, fold, replicate, slice_index_or, slice_set, Option, Some, None, option_and_then, if◌then◌else◌}
 use Rattle.raid_base.specs.declared.names.Item.{Item}
-use Rattle.raid_base.specs.Names.{is_item, holds}
+use Rattle.raid_base.specs.Names.{is_item}
 use Rattle.raid_base.specs.Find.{first_of}
 use Rattle.raid_program.specs.declared.program.Term.{Term}
 use Rattle.raid_program.specs.declared.program.Term.TheVariants.{Reg, Value}
@@ -45,9 +45,13 @@ term_value registers (Value v) = v
 abbrev pub plus : ℤ → Bool → ℤ → Option ℤ
 plus a sign b = let c = if sign then a +ℤ b else a -ℤ b in if is_i64 c then Some c else None
 
+-- the sum so far with one more term, true being plus
+abbrev pub with_term : List ℤ → Option ℤ → Bool × Term → Option ℤ
+with_term registers sum t = option_and_then (λ a. plus a t.0 (term_value registers t.1)) sum
+
 -- an expression's value, computed from left to right, if no step leaves i64
 abbrev pub expr_value : List ℤ → Expr → Option ℤ
-expr_value registers e = fold (λ sum t. option_and_then (λ a. plus a t.0 (term_value registers t.1)) sum) (Some (term_value registers e.first)) e.rest
+expr_value registers e = fold (with_term registers) (Some (term_value registers e.first)) e.rest
 
 -- the pairs with the item's value replaced, or added at the end
 abbrev pub put : List (Item × ℤ) → Item → ℤ → List (Item × ℤ)
@@ -64,17 +68,17 @@ asks s x v = record s { reads = s.reads ++ (x, v) ∷ [] }
 abbrev pub writes : Progress → Item → ℤ → Progress
 writes s x v = record s { writes = put s.writes x v }
 
--- the value that the program wrote, or else read, before
-abbrev pub known : Progress → Item → Option ℤ
-known s x = if holds x s.writes then first_of x s.writes else first_of x s.reads
-
 -- the first one's value, or else the second's
 abbrev pub or_else : {X : Type 0} → Option X → Option X → Option X
 or_else (Some x) other = Some x
 or_else None other = other
 
--- the run goes on with the value, or ends where there is none
-abbrev pub with_value : Option ℤ → Outcome → (ℤ → Outcome) → Outcome
+-- the value that the program wrote, or else read, before
+abbrev pub known : Progress → Item → Option ℤ
+known s x = or_else (first_of x s.writes) (first_of x s.reads)
+
+-- what goes on with the value, or stops where there is none
+abbrev pub with_value : {X : Type 0} → Option ℤ → X → (ℤ → X) → X
 with_value (Some v) stop go = go v
 with_value None stop go = stop
 
