@@ -1,3 +1,5 @@
 pub mod Lists
 pub mod Sums
 pub mod Puts
+pub mod Courses
+pub mod Finds

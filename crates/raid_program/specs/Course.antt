@@ -49,6 +49,7 @@ step_of s (statements.StopIf left right) =
 pub record Passes (before after : Course) (s : Statement) : Type 0 where
   pub step : step_of (progress before) s ≡ Ok (progress after)
   pub place : after.place ≡ before.place + 1
+  pub reads : after.reads ≡ before.reads
   pub asked : after.asked ≡ None
 
 -- the run has stopped before the statement

@@ -169,6 +169,44 @@ impl Run {
         }
     }
 
+    /// Goes on to the next read of an item that was neither read nor written before, or to the end of the
+    /// program, and tells which. Until a value is given it tells the same again.
+    ///
+    /// What it tells, and the reads and writes that the run then has, are the outcome of the program on the
+    /// values given so far. Takes no memory.
+    pub fn next(&mut self, program: &Program) -> Want
+        requires { IsOf self.old program.now }
+        ensures outcome { outcome_of program.now (given self.old.reads) ≡ record { end = result; reads = self.new.reads; writes = self.new.writes } }
+        ensures reads { self.new.reads ≡ self.old.reads }
+        ensures asked { self.new.asked ≡ asks_for result }
+        ensures of { IsOf self.new program.now }
+    {
+        self.asked = None;
+        while self.place < program.len() {
+            match self.step(program.get(self.place)) {
+                Ok(()) => {}
+                Err(want) => return want,
+            }
+        }
+        Want::Done
+    }
+
+    /// Gives the value that the last [`next`](Run::next) asked for. Takes no memory.
+    pub fn give(&mut self, value: i64)
+        requires { IsSome self.old.asked }
+        ensures reads { IfSome self.old.asked (λ x. self.new.reads ≡ self.old.reads ++ (x, value) ∷ []) }
+        ensures writes { self.new.writes ≡ self.old.writes }
+        ensures asked { self.new.asked ≡ None }
+        ensures of { (p : List Statement) → IsOf self.old p → IsOf self.new p }
+    {
+        if let Some(item) = self.asked {
+            self.reads.push_reserved((item, value));
+            self.registers[self.register as usize] = value;
+            self.place += 1;
+            self.asked = None;
+        }
+    }
+
     /// The values that were given, in order, each with the item that was asked for.
     pub fn reads(&self) -> &[(Item, i64)]
         ensures { result.now ≡ self.now.reads }
