@@ -11,9 +11,9 @@ use Rattle.raid_program.specs.declared.program.Statement.{Statement}
 use Rattle.raid_program.specs.declared.program.Statement.TheVariants as statements
 use Rattle.raid_program.specs.declared.program.Want.{Want}
 use Rattle.raid_program.specs.declared.program.Want.TheVariants.{Read, Done, Own, Overflow}
-use Rattle.raid_program.specs.Run.{Answers, Progress, Outcome, opened, ended, expr_value, known, or_else, loads, asks, writes, with_value, run_from, outcome_of}
+use Rattle.raid_program.specs.Run.{Answers, Progress, Outcome, opened, ended, expr_value, known, or_else, loads, asks, writes, with_value, run_from, outcome_of, given, asks_for, Agree}
 use Rattle.raid_program.proofs.Finds.{front, still_holds, back, holds_last}
-use Rattle.raid_program.specs.Course.{Course, progress, given, Agree, asks_for, step_of, Passes, Stops, IsOf}
+use Rattle.raid_program.specs.Course.{Course, progress, step_of, Passes, Stops, IsOf}
 
 -- a choice by a value that goes on in one way goes on in the other way too
 value_ok : {S W O : Type 0} (o : Option ℤ) (w : W) (f : ℤ → Result S W) (s : S) (stop goal : O) (go : ℤ → O) →
@@ -85,7 +85,7 @@ pub of_idle : (c d : Course) (p : List Statement) → IsOf c p → progress d �
 of_idle c d p o same place idle = record {
   within = omega (arith, o.within, place);
   goes_on = λ a agree.
-      o.goes_on a (subst (λ (s : Progress). Agree s.reads a (given s.reads)) same agree) ∙ ap (λ s. run_from a s (drop c.place p)) (sym same) ∙ ap (λ k. run_from a (progress d) (drop k p)) (sym place);
+      o.goes_on a (subst (λ (s : Progress). Agree (λ x. holds x s.reads) a (given s.reads)) same agree) ∙ ap (λ s. run_from a s (drop c.place p)) (sym same) ∙ ap (λ k. run_from a (progress d) (drop k p)) (sym place);
   waits = λ x e. absurd (cc (idle, e));
 }
 
@@ -94,7 +94,7 @@ pub of_pass : (c d : Course) (p : List Statement) (s : Statement) → IsOf c p �
 of_pass c d p s o here t = record {
   within = omega (arith, slice_get_within p c.place s here, t.place);
   goes_on = λ a agree.
-      o.goes_on a (subst (λ reads. Agree reads a (given reads)) t.reads agree) ∙ ap (λ z. run_from a (progress c) z) (left_at p c.place s here) ∙
+      o.goes_on a (subst (λ reads. Agree (λ x. holds x reads) a (given reads)) t.reads agree) ∙ ap (λ z. run_from a (progress c) z) (left_at p c.place s here) ∙
       run_passes a (progress c) s (drop (c.place + 1) p) (progress d) t.step ∙ ap (λ k. run_from a (progress d) (drop k p)) (sym t.place);
   waits = λ x e. absurd (cc (t.asked, e));
 }
@@ -124,7 +124,7 @@ pub of_stop : (c d : Course) (p : List Statement) (s : Statement) (want : Want) 
 of_stop c d p s want o here t = record {
   within = omega (arith, o.within, t.place);
   goes_on = λ a agree.
-      o.goes_on a (subst (λ (z : Progress). Agree z.reads a (given z.reads)) t.same agree) ∙ ap (λ z. run_from a z (drop c.place p)) (sym t.same) ∙ ap (λ k. run_from a (progress d) (drop k p)) (sym t.place);
+      o.goes_on a (subst (λ (z : Progress). Agree (λ x. holds x z.reads) a (given z.reads)) t.same agree) ∙ ap (λ z. run_from a z (drop c.place p)) (sym t.same) ∙ ap (λ k. run_from a (progress d) (drop k p)) (sym t.place);
   waits = λ x e.
       let reads : want ≡ Read x = asked_is want x (sym t.asked ∙ e) in
       let is : s ≡ statements.Read x d.register = t.reads x reads in
@@ -159,7 +159,7 @@ of_give c d p x v asked place same idle o =
     record {
       within = omega (arith, slice_get_within p c.place (statements.Read x c.register) here, place);
       goes_on = λ a agree.
-          let agree-more = subst (λ reads. Agree reads a (given reads)) more agree in
+          let agree-more = subst (λ reads. Agree (λ x. holds x reads) a (given reads)) more agree in
           o.goes_on a (λ y h. agree-more y (still_holds y c.reads _ h) ∙ front y c.reads _ h) ∙
           ap (λ z. run_from a (progress c) z) (left_at p c.place (statements.Read x c.register) here) ∙
           run_reads a (progress c) x c.register v (drop (c.place + 1) p) none (agree-more x (holds_last x v c.reads) ∙ back x v c.reads (neither (first_of x c.writes) (first_of x c.reads) none)) ∙

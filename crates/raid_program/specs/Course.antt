@@ -1,13 +1,12 @@
 -- A run under way: where it stands, and of which programs it is.
-use Rattle.std.specs.Prelude.{◌≡◌, ◌≤◌, ◌+◌, ℕ, ℤ, Bool, true, List, drop, length, slice_get, Option, Some, None, Result, Ok, Err, int_lt, if◌then◌else◌}
+use Rattle.std.specs.Prelude.{◌≡◌, ◌≤◌, ◌+◌, ℕ, ℤ, List, drop, length, slice_get, Option, Some, None, Result, Ok, Err, int_lt, if◌then◌else◌}
 use Rattle.raid_base.specs.declared.names.Item.{Item}
 use Rattle.raid_base.specs.Names.{holds}
-use Rattle.raid_base.specs.Find.{first_of}
 use Rattle.raid_program.specs.declared.program.Statement.{Statement}
 use Rattle.raid_program.specs.declared.program.Statement.TheVariants as statements
 use Rattle.raid_program.specs.declared.program.Want.{Want}
 use Rattle.raid_program.specs.declared.program.Want.TheVariants.{Read, Done, Own, Overflow}
-use Rattle.raid_program.specs.Run.{Answers, Progress, expr_value, known, loads, writes, with_value, run_from, outcome_of}
+use Rattle.raid_program.specs.Run.{Answers, Progress, expr_value, known, loads, writes, with_value, run_from, outcome_of, given, asks_for, Agree}
 
 -- where a run stands: the place of its next statement, its progress, and the item whose value it waits for, with the register that gets it
 pub record Course : Type 0 where
@@ -20,21 +19,6 @@ pub record Course : Type 0 where
 
 abbrev pub progress : Course → Progress
 progress c = record { registers = c.registers; reads = c.reads; writes = c.writes }
-
--- the answers that the reads tell
-abbrev pub given : List (Item × ℤ) → Answers
-given reads x = first_of x reads
-
--- the answers give the same for each item among the pairs
-abbrev pub Agree : List (Item × ℤ) → Answers → Answers → Type 0
-Agree pairs a b = (x : Item) → holds x pairs ≡ true → a x ≡ b x
-
--- the item that is asked for at the end
-abbrev pub asks_for : Want → Option Item
-asks_for (Read x) = Some x
-asks_for Done = None
-asks_for Own = None
-asks_for Overflow = None
 
 -- one statement without answers: the progress after it, or else how the run stops before it
 abbrev pub step_of : Progress → Statement → Result Progress Want
@@ -63,5 +47,5 @@ pub record Stops (before after : Course) (s : Statement) (want : Want) : Type 0 
 -- the run is one of the program: on any answers that agree with those given, the program's outcome is that of what is left of it
 pub record IsOf (c : Course) (p : List Statement) : Type 0 where
   pub within : c.place ≤ length p
-  pub goes_on : (a : Answers) → Agree c.reads a (given c.reads) → outcome_of p a ≡ run_from a (progress c) (drop c.place p)
+  pub goes_on : (a : Answers) → Agree (λ x. holds x c.reads) a (given c.reads) → outcome_of p a ≡ run_from a (progress c) (drop c.place p)
   pub waits : (x : Item) → c.asked ≡ Some x → (slice_get p c.place ≡ Some (statements.Read x c.register)) × (known (progress c) x ≡ None)

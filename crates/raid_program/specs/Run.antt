@@ -1,7 +1,8 @@
 -- How a program runs where all answers are given, and how the serial machine runs it.
-use Rattle.std.specs.Prelude.{ℕ, ℤ, pos, negsuc, ◌+ℤ◌, ◌-ℤ◌, ◌-◌, ◌^◌, int_lt, int_le, Bool, true, false, ◌&&◌, List, [], ◌∷◌, ◌++◌, fold, replicate, slice_index_or, slice_set, Option, Some, None, option_and_then, if◌then◌else◌}
+use Rattle.std.specs.Prelude.{◌≡◌, ◌||◌, ℕ, ℤ, pos, negsuc, ◌+ℤ◌, ◌-ℤ◌, ◌-◌, ◌^◌, int_lt, int_le, Bool, true, false, ◌&&◌, List, [], ◌∷◌, ◌++◌, fold, replicate, slice_index_or, slice_set, Option, Some, None, option_and_then, if◌then◌else◌}
+use Rattle.std.specs.Option.{option_map_or}
 use Rattle.raid_base.specs.declared.names.Item.{Item}
-use Rattle.raid_base.specs.Names.{is_item}
+use Rattle.raid_base.specs.Names.{is_item, holds}
 use Rattle.raid_base.specs.Find.{first_of}
 use Rattle.raid_program.specs.declared.program.Term.{Term}
 use Rattle.raid_program.specs.declared.program.Term.TheVariants.{Reg, Value}
@@ -113,3 +114,22 @@ is_done Overflow = false
 -- the serial machine: the table after the program, whose writes apply where it is done
 abbrev pub serially : Answers → List Statement → Answers
 serially table p = let o = outcome_of p table in if is_done o.end then written table o.writes else table
+
+-- the answers that the pairs give
+abbrev pub given : List (Item × ℤ) → Answers
+given pairs x = first_of x pairs
+
+-- the item whose value is wanted at the end
+abbrev pub asks_for : Want → Option Item
+asks_for (Read x) = Some x
+asks_for Done = None
+asks_for Own = None
+asks_for Overflow = None
+
+-- the run asked for the item's value: it read it, or ends with that wish
+abbrev pub has_asked : Outcome → Item → Bool
+has_asked o x = holds x o.reads || option_map_or (is_item x) (asks_for o.end) false
+
+-- the answers give the same for each item that passes the test
+abbrev pub Agree : (Item → Bool) → Answers → Answers → Type 0
+Agree test a b = (x : Item) → test x ≡ true → a x ≡ b x

@@ -3,8 +3,8 @@ ghost use Rattle.raid_base.specs.Find.{first_of};
 ghost use Rattle.raid_program.specs.declared.program.Statement.{Statement};
 ghost use Rattle.raid_program.specs.declared.program.Statement.TheVariants as statements;
 ghost use Rattle.raid_program.specs.Form.{is_formed, is_expr};
-ghost use Rattle.raid_program.specs.Run.{put, known, outcome_of};
-ghost use Rattle.raid_program.specs.Course.{IsOf, progress, given, asks_for, Passes, Stops};
+ghost use Rattle.raid_program.specs.Run.{put, known, given, asks_for, outcome_of};
+ghost use Rattle.raid_program.specs.Course.{IsOf, progress, Passes, Stops};
 
 use crate::program::{Expr, Program, Statement, Want};
 use crate::sum::Registers;

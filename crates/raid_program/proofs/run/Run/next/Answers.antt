@@ -1,7 +1,7 @@
 use Rattle.std.proofs.Common.{◌≡◌, ℤ, List, Some, slice_get, subst, sym, ◌∙◌}
 use Rattle.raid_base.specs.declared.names.Item.{Item}
-use Rattle.raid_program.specs.Run.{Outcome, outcome_of}
-use Rattle.raid_program.specs.Course.{Course, given}
+use Rattle.raid_program.specs.Run.{Outcome, outcome_of, given}
+use Rattle.raid_program.specs.Course.{Course}
 use Rattle.raid_program.proofs.Courses.{of_pass, outcome_stops}
 use Rattle.raid_program.proofs.run.Run.next.Goals as goal
 
