@@ -9,6 +9,7 @@ use Rattle.raid_program.specs.declared.program.Term.TheVariants.{Reg, Value}
 use Rattle.raid_program.specs.declared.program.Expr.{Expr}
 use Rattle.raid_program.specs.declared.program.Statement.{Statement}
 use Rattle.raid_program.specs.declared.program.Statement.TheVariants as statements
+pub use Rattle.raid_program.specs.declared.program.Outcome.{Outcome}
 use Rattle.raid_program.specs.declared.program.Want.{Want}
 use Rattle.raid_program.specs.declared.program.Want.TheVariants.{Read, Done, Own, Overflow}
 
@@ -19,12 +20,6 @@ Answers = Item → Option ℤ
 -- the registers, the reads so far in order, and the writes so far, each item once
 pub record Progress : Type 0 where
   pub registers : List ℤ
-  pub reads : List (Item × ℤ)
-  pub writes : List (Item × ℤ)
-
--- how a run ended, with its reads and writes
-pub record Outcome : Type 0 where
-  pub end : Want
   pub reads : List (Item × ℤ)
   pub writes : List (Item × ℤ)
 
@@ -133,3 +128,7 @@ has_asked o x = holds x o.reads || option_map_or (is_item x) (asks_for o.end) fa
 -- the answers give the same for each item that passes the test
 abbrev pub Agree : (Item → Bool) → Answers → Answers → Type 0
 Agree test a b = (x : Item) → test x ≡ true → a x ≡ b x
+
+-- the answers of a table, in which an item's value stands at the place of its number
+abbrev pub values : List (Option ℤ) → Answers
+values slots x = slice_index_or slots x.0 None

@@ -191,10 +191,12 @@ impl Run {
         Want::Done
     }
 
-    /// Gives the value that the last [`next`](Run::next) asked for. Takes no memory.
+    /// Gives the value that the last [`next`](Run::next) asked for. At most 32 values are given to a run. Takes
+    /// no memory.
     pub fn give(&mut self, value: i64)
         requires { IsSome self.old.asked }
         ensures reads { IfSome self.old.asked (λ x. self.new.reads ≡ self.old.reads ++ (x, value) ∷ []) }
+        ensures most { length self.new.reads ≤ 32 }
         ensures writes { self.new.writes ≡ self.old.writes }
         ensures asked { self.new.asked ≡ None }
         ensures of { (p : List Statement) → IsOf self.old p → IsOf self.new p }
