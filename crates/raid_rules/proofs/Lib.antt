@@ -1,3 +1,4 @@
+pub mod Acts
 pub mod Edges
 pub mod Push
 pub mod Reach

@@ -40,7 +40,7 @@ is_site_up v s = nat_lt 0 (session v s)
 
 -- whether the site owes the transaction's Ack after the entry
 abbrev pub turn_owed : Site → Txn → Bool → Entry → Bool
-turn_owed s t owed (Commit u request applied) = if is_txn t u then has_site applied s else owed
+turn_owed s t owed (Commit u request applied) = owed || (is_txn t u && has_site applied s)
 turn_owed s t owed (Ack u site) = owed && not (is_txn t u && is_site s site)
 turn_owed s t owed (Down site) = owed && not (is_site s site)
 turn_owed s t owed other = owed
