@@ -4,9 +4,10 @@ ghost use Rattle.std.specs.Prelude.{◌≡◌, [], ◌∷◌, ◌++◌, true, no
 ghost use Rattle.raid_base.specs.Names.{has_txn};
 ghost use Rattle.raid_rules.specs.History.{has_aborted};
 ghost use Rattle.raid_rules.specs.Conflict as words;
+ghost use Rattle.raid_rules.specs.Verdicts as verdicts;
 
 use crate::note;
-use raid_base::{Entry, Item, Listed, NoMemory, Noted, Txn, TxnList};
+use raid_base::{Ask, Entry, Item, Listed, NoMemory, Noted, Txn, TxnList};
 use std::alloc::Global;
 
 /// An action: a read at its Read, a write at its transaction's Commit. `at` is the entry's number, `by` the
@@ -23,7 +24,7 @@ pub struct Action {
 pub type Pairs = Listed<(Txn, Txn)>;
 
 /// Adds a write of each of the items. What it holds after want of memory is not said.
-pub(crate) fn push_writes(
+fn push_writes(
     actions: &mut Listed<Action>,
     at: u64,
     by: Txn,
@@ -95,6 +96,52 @@ pub fn actions(alloc: Global, view: &[Noted]) -> Result<Listed<Action>, NoMemory
     Ok(actions)
 }
 
+/// The largest number in the view, 0 where it is empty.
+pub fn last_number(view: &[Noted]) -> u32
+    ensures { result ≡ verdicts.last_number view.now }
+{
+    let mut last = 0;
+    for noted in view {
+        last = noted.at.max(last);
+    }
+    last
+}
+
+/// Adds the action that is asked, none where its transaction is aborted in the view.
+fn push_asked(
+    actions: &mut Listed<Action>,
+    view: &[Noted],
+    at: u64,
+    ask: &Ask,
+) -> Result<(), NoMemory>
+    ensures { OnOk result (actions.new ≡ actions.old ++ filter (λ a. not (has_aborted view.now a.by)) (words.acts (verdicts.as_noted at (verdicts.asked ask.now)) (verdicts.as_entry (verdicts.asked ask.now)))) }
+{
+    match ask {
+        Ask::Read { txn, item, .. } => {
+            if note::has_aborted(view, *txn) {
+                Ok(())
+            } else {
+                actions.push(Action {
+                    at,
+                    by: *txn,
+                    item: *item,
+                    writes: false,
+                })
+            }
+        }
+        Ask::Commit { txn, writes, .. } => push_commit(actions, view, at, *txn, writes.as_slice()),
+    }
+}
+
+/// The actions of a view with the asked action as its last.
+fn actions_with(alloc: Global, view: &[Noted], ask: &Ask) -> Result<Listed<Action>, NoMemory>
+    ensures { IfOk result (λ all. all ≡ words.actions (verdicts.with_action view.now (verdicts.asked ask.now))) }
+{
+    let mut actions = actions(alloc, view)?;
+    push_asked(&mut actions, view, u64::from(last_number(view)) + 1, ask)?;
+    Ok(actions)
+}
+
 /// Whether the first action stands before the second and conflicts with it: they are on one item, by two
 /// transactions, and one of them is a write.
 pub fn precedes(first: &Action, second: &Action) -> bool
@@ -135,6 +182,25 @@ pub fn edges(alloc: Global, view: &[Noted]) -> Result<Pairs, NoMemory>
 {
     let actions = actions(alloc, view)?;
     edges_among(alloc, actions.as_slice())
+}
+
+/// The transaction that asks.
+fn asker(ask: &Ask) -> Txn
+    ensures { result ≡ verdicts.asker (verdicts.asked ask.now) }
+{
+    match ask {
+        Ask::Read { txn, .. } => *txn,
+        Ask::Commit { txn, .. } => *txn,
+    }
+}
+
+/// Whether the edges have a cycle through the asking transaction once its action is the view's last.
+pub fn closes_cycle(alloc: Global, view: &[Noted], ask: &Ask) -> Result<bool, NoMemory>
+    ensures { IfOk result (λ b. b ≡ verdicts.closes_cycle view.now (verdicts.asked ask.now)) }
+{
+    let actions = actions_with(alloc, view, ask)?;
+    let edges = edges_among(alloc, actions.as_slice())?;
+    leads(alloc, edges.as_slice(), asker(ask), asker(ask))
 }
 
 /// Whether the transaction is in the list.

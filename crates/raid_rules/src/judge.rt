@@ -1,6 +1,6 @@
 //! The verdicts of the four kinds.
 
-ghost use Rattle.std.specs.Prelude.{◌≡◌, ℕ, ℤ, nat_lt, ◌&&◌, ◌||◌, not, if◌then◌else◌};
+ghost use Rattle.std.specs.Prelude.{◌≡◌, ℕ, ℤ, nat_lt, ◌&&◌, ◌||◌, not, IfOk};
 ghost use Rattle.std.specs.List.{list_any};
 ghost use Rattle.raid_base.specs.Names.{is_txn, is_item, holds};
 ghost use Rattle.raid_base.specs.declared.verdict.Verdict.TheVariants.{Wait, Grant};
@@ -8,8 +8,9 @@ ghost use Rattle.raid_rules.specs.Views as views;
 ghost use Rattle.raid_rules.specs.Verdicts as words;
 ghost use Rattle.raid_rules.specs.Entries.{is_read, is_commit};
 
-use crate::{note, said};
-use raid_base::{Ask, Entry, Item, Kind, Noted, Refusal, Txn, Verdict};
+use crate::{conflict, note, said};
+use raid_base::{Ask, Entry, Item, Kind, NoMemory, Noted, Refusal, Txn, Verdict};
+use std::alloc::Global;
 
 /// Whether an entry is a Read of the item by a transaction that is in the writer's way.
 fn holds_up(view: &[Noted], writer: Txn, item: Item, entry: &Entry) -> bool
@@ -218,5 +219,29 @@ fn by_validation(view: &[Noted], ask: &Ask) -> Verdict
                 Verdict::Grant
             }
         }
+    }
+}
+
+/// The verdict of graph testing: an action is refused where it would put its transaction on a cycle.
+fn by_graph(alloc: Global, view: &[Noted], ask: &Ask) -> Result<Verdict, NoMemory>
+    ensures { IfOk result (λ v. v ≡ words.graph_verdict view.now (words.asked ask.now)) }
+{
+    if conflict::closes_cycle(alloc, view, ask)? {
+        Ok(Verdict::Reject(Refusal::Cycle))
+    } else {
+        Ok(Verdict::Grant)
+    }
+}
+
+/// The verdict of a kind on an ask, over a view. Memory is asked for by graph testing alone, and its want is
+/// the only error.
+pub fn verdict(alloc: Global, kind: Kind, view: &[Noted], ask: &Ask) -> Result<Verdict, NoMemory>
+    ensures { IfOk result (λ v. v ≡ words.verdict_of kind view.now (words.asked ask.now)) }
+{
+    match kind {
+        Kind::Lock => Ok(by_locks(view, ask)),
+        Kind::Stamp => Ok(by_stamps(view, ask)),
+        Kind::Valid => Ok(by_validation(view, ask)),
+        Kind::Graph => by_graph(alloc, view, ask),
     }
 }
