@@ -1,4 +1,5 @@
 pub mod Acts
 pub mod Edges
+pub mod Opening
 pub mod Push
 pub mod Reach

@@ -64,9 +64,13 @@ turn_lock s x before locked other = locked
 abbrev pub holders : List (List Site) → Item → List Site
 holders placement x = slice_index_or placement x.0 []
 
+-- a copy at the site, if there is one, is locked
+abbrev pub is_copy_locked : List Noted → Site → Item → Bool
+is_copy_locked p s x = fold_seeing (λ before locked n. turn_lock s x before locked n.entry) [] false p
+
 -- the site holds a copy of the item, and it is locked
 abbrev pub is_locked : List (List Site) → List Noted → Site → Item → Bool
-is_locked placement p s x = has_site (holders placement x) s && fold_seeing (λ before locked n. turn_lock s x before locked n.entry) [] false p
+is_locked placement p s x = has_site (holders placement x) s && is_copy_locked p s x
 
 -- the up sites with an unlocked copy of the item
 abbrev pub sources : ℕ → List (List Site) → List Noted → Item → List Site
