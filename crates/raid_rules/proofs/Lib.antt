@@ -3,3 +3,4 @@ pub mod Edges
 pub mod Opening
 pub mod Push
 pub mod Reach
+pub mod Sources

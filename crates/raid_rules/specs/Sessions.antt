@@ -1,5 +1,5 @@
 -- Sessions, owed Acks, fail-locks and sources. The placement has the holders of each item, ascending.
-use Rattle.std.specs.Prelude.{ℕ, ◌-◌, nat_lt, Bool, false, not, ◌&&◌, ◌||◌, List, [], fold, filter, replicate, slice_set, slice_index_or, Option, find, if◌then◌else◌}
+use Rattle.std.specs.Prelude.{ℕ, ◌-◌, nat_lt, Bool, false, not, ◌&&◌, ◌||◌, List, [], fold, filter, replicate, slice_set, slice_index_or, Option, Some, slice_get, if◌then◌else◌}
 use Rattle.std.specs.List.{list_any}
 use Rattle.raid_base.specs.declared.names.Txn.{Txn}
 use Rattle.raid_base.specs.declared.names.Item.{Item}
@@ -8,7 +8,7 @@ use Rattle.raid_base.specs.declared.entry.Entry.{Entry}
 use Rattle.raid_base.specs.declared.entry.Entry.TheVariants.{Commit, Ack, Down, Up, Clear}
 use Rattle.raid_base.specs.declared.entry.Noted.{Noted}
 use Rattle.raid_base.specs.Names.{is_txn, is_item, is_site, has_site, holds}
-use Rattle.raid_base.specs.Sites.{session}
+use Rattle.raid_base.specs.Sites.{session, all_sites}
 use Rattle.raid_rules.specs.Entries.{is_commit}
 use Rattle.raid_rules.specs.History.{fold_seeing}
 
@@ -72,10 +72,14 @@ is_copy_locked p s x = fold_seeing (λ before locked n. turn_lock s x before loc
 abbrev pub is_locked : List (List Site) → List Noted → Site → Item → Bool
 is_locked placement p s x = has_site (holders placement x) s && is_copy_locked p s x
 
--- the up sites with an unlocked copy of the item
-abbrev pub sources : ℕ → List (List Site) → List Noted → Item → List Site
-sources sites placement p x = filter (λ s. is_site_up (vector sites p) s && not (is_locked placement p s x)) (holders placement x)
+-- the site is up and has an unlocked copy of the item
+abbrev pub is_source : ℕ → List (List Site) → List Noted → Item → Site → Bool
+is_source sites placement p x s = has_site (holders placement x) s && is_site_up (vector sites p) s && not (is_copy_locked p s x)
 
--- the home where it is a source, else the least source
+-- the sources of the item, ascending
+abbrev pub sources : ℕ → List (List Site) → List Noted → Item → List Site
+sources sites placement p x = filter (is_source sites placement p x) all_sites
+
+-- of the sources found the home, where it is one, else the least
 abbrev pub source_for : List Site → Site → Option Site
-source_for found home = find (λ s. is_site home s || not (has_site found home)) found
+source_for found home = if has_site found home then Some home else slice_get found 0

@@ -1,26 +1,13 @@
 //! Sessions, owed acknowledgements, locked copies and sources.
 
-ghost use Rattle.std.specs.Prelude.{◌≡◌, ◌≤◌, ◌&&◌, not, replicate, find};
-ghost use Rattle.std.specs.List.{list_any};
-ghost use Rattle.raid_base.specs.Names.{has_site, holds};
+ghost use Rattle.std.specs.Prelude.{◌≡◌, ◌≤◌, ◌&&◌, replicate, find};
+ghost use Rattle.raid_base.specs.Names.{holds};
 ghost use Rattle.raid_base.specs.Sites.{all_sites};
 ghost use Rattle.raid_rules.specs.Entries.{is_commit};
 ghost use Rattle.raid_rules.specs.Sessions as words;
 
 use crate::said;
 use raid_base::{Entry, Item, Noted, Placement, Site, Sites, Txn, Vector};
-
-/// The sites that there can be.
-const ALL_SITES: [Site; 8] = [
-    Site(1),
-    Site(2),
-    Site(3),
-    Site(4),
-    Site(5),
-    Site(6),
-    Site(7),
-    Site(8),
-];
 
 /// The vector with another session of the site, where it has one.
 fn with_session(vector: Vector, site: Site, session: u32) -> Vector
@@ -184,4 +171,50 @@ pub fn is_locked(placement: &Placement, view: &[Noted], site: Site, item: Item) 
     ensures { result ≡ words.is_locked placement.now view.now site item }
 {
     holders(placement, item).contains(site) && is_copy_locked(view, site, item)
+}
+
+/// Whether the site is up and has an unlocked copy of the item.
+pub fn is_source(placement: &Placement, sites: u8, view: &[Noted], item: Item, site: Site) -> bool
+    requires sites { sites ≤ 8 }
+    requires least { 1 ≤ site.0 }
+    requires most { site.0 ≤ 8 }
+    ensures { result ≡ words.is_source sites placement.now view.now item site }
+{
+    holders(placement, item).contains(site)
+        && vector(sites, view).session(site) > 0
+        && !is_copy_locked(view, site, item)
+}
+
+/// The least source of the item; None exactly where it has no source.
+fn least_source(placement: &Placement, sites: u8, view: &[Noted], item: Item) -> Option<Site>
+    requires { sites ≤ 8 }
+    ensures { result ≡ find (words.is_source sites placement.now view.now item) all_sites }
+{
+    for number in 1..9 {
+        if is_source(placement, sites, view, item, Site(number)) {
+            return Some(Site(number));
+        }
+    }
+    None
+}
+
+/// Where a transaction of this home reads the item: at its home where that is a source, else at the least
+/// source; None exactly where there is no source.
+pub fn source_for(
+    placement: &Placement,
+    sites: u8,
+    view: &[Noted],
+    item: Item,
+    home: Site,
+) -> Option<Site>
+    requires sites { sites ≤ 8 }
+    requires least { 1 ≤ home.0 }
+    requires most { home.0 ≤ 8 }
+    ensures { result ≡ words.source_for (words.sources sites placement.now view.now item) home }
+{
+    if is_source(placement, sites, view, item, home) {
+        Some(home)
+    } else {
+        least_source(placement, sites, view, item)
+    }
 }
