@@ -1,6 +1,6 @@
 -- How two values are told apart by computation: each is written as a list of numbers, and the lists differ.
-use Rattle.std.specs.Prelude.{◌≡◌, ℕ, ℤ, pos, negsuc, Bool, true, false, List, [], ◌∷◌, ◌++◌, length, flat_map, bytes_eq, Option, Some, None}
-use Rattle.std.proofs.Common.{ap, sym, subst, refl, rules, ◌∙◌}
+use Rattle.std.specs.Prelude.{◌≡◌, ℕ, ℤ, pos, negsuc, true, false, List, [], ◌∷◌, ◌++◌, length, flat_map, bytes_eq, Option, Some, None}
+use Rattle.std.proofs.Common.{sym, subst, rules, ◌∙◌}
 use Rattle.std.proofs.lemmas.Bool.{true≢false}
 use Rattle.raid_base.specs.declared.names.Item.{Item}
 use Rattle.raid_base.specs.declared.names.Site.{Site}

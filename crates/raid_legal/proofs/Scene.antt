@@ -8,7 +8,7 @@ use Rattle.raid_base.specs.declared.verdict.Kind.{Kind}
 use Rattle.raid_base.specs.declared.verdict.Method.{Method}
 use Rattle.raid_base.specs.declared.report.CopyLine.{CopyLine}
 use Rattle.raid_program.specs.declared.program.Term.{Term}
-use Rattle.raid_program.specs.declared.program.Term.TheVariants.{Reg, Value}
+use Rattle.raid_program.specs.declared.program.Term.TheVariants.{Value}
 use Rattle.raid_program.specs.declared.program.Expr.{Expr}
 use Rattle.raid_program.specs.declared.program.Statement.{Statement}
 use Rattle.raid_program.specs.declared.program.Statement.TheVariants.{Read, Write, StopIf}

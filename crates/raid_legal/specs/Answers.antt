@@ -12,7 +12,7 @@ use Rattle.raid_base.specs.declared.entry.Cause.{Cause}
 use Rattle.raid_base.specs.declared.entry.Cause.TheVariants as causes
 use Rattle.raid_base.specs.declared.entry.Noted.{Noted}
 use Rattle.raid_base.specs.declared.verdict.Kind.{Kind}
-use Rattle.raid_base.specs.declared.verdict.Kind.TheVariants.{Lock, Stamp, Valid, Graph}
+use Rattle.raid_base.specs.declared.verdict.Kind.TheVariants.{Lock}
 use Rattle.raid_base.specs.declared.verdict.Refusal.{Refusal}
 use Rattle.raid_base.specs.declared.verdict.Refusal.TheVariants.{Late, Invalid, Cycle}
 use Rattle.raid_base.specs.declared.verdict.Verdict.{Verdict}
