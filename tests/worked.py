@@ -1,8 +1,8 @@
 """Writes the worked examples of crates/raid_legal/proofs and crates/raid_steps/proofs once more.
 
 Each is a run or a list of letters of the reference model, and what the model says of it becomes lemmas that
-the check computes. With names of modules, only these. `--all FOLDER` writes the examples of raid_legal that
-the repository doesn't keep, too, into another folder.
+the check computes. With names of modules, only these. `--all CRATES` writes those that the repository doesn't
+keep, too, into the crates of a scratch copy.
 """
 import os
 import sys
@@ -16,6 +16,7 @@ from raid_rules import Prefix
 from raid_types import Ack, Commit
 
 LEGAL = os.path.join(HERE, "..", "crates", "raid_legal", "proofs")
+STEPS = os.path.join(HERE, "..", "crates", "raid_steps", "proofs")
 
 LETTERS7 = test_rows.LETTERS7
 READ_AND_WRITE = [["read x r0", "write y 1"], ["write x 5"]]
@@ -183,14 +184,135 @@ def legal_example(module, folder):
         f.write(out)
 
 
+STEPS_IMPORTS = """use Rattle.std.specs.Prelude.{slice_get}
+use Rattle.std.specs.Option.{option_map_or}
+use Rattle.raid_message.specs.declared.letter.Letter.{Letter}
+use Rattle.raid_message.specs.declared.letter.Message.TheVariants as letters
+use Rattle.raid_message.specs.declared.letter.Pick.{Pick}
+use Rattle.raid_steps.specs.State.{Out, Sequencer}
+use Rattle.raid_steps.specs.Sequencer.{hear_sequencer}
+use Rattle.raid_steps.specs.World.{run, report, is_schedule, is_idle, first_servers}
+use Rattle.raid_steps.proofs.Mail.{letter, takes, step}
+"""
+
+
+def letters_heard(letters, **options):
+    """The workload, each letter that a sequencer heard with what it sent, and the history at the end."""
+    log, hear = [], raid_world.Sequencer.hear
+
+    def spy(self, sender, l):
+        outs = hear(self, sender, l)
+        log.append((sender, l, list(outs)))
+        return outs
+    raid_world.Sequencer.hear = spy
+    try:
+        w, sequencer = test_rows.feed(letters, **options)
+    finally:
+        raid_world.Sequencer.hear = hear
+    return w, log, sequencer.p.entries
+
+
+def heard(shows, *args, **options):
+    """An example of letters to the sequencer: its history after them, and what each sends."""
+    w, log, es = letters_heard(*args, **options)
+    out = f"-- {shows}\n{HEAD}{STEPS_IMPORTS}"
+    out += f"\n-- what is run\nabbrev w : Workload\nw = {workload(w)}\n"
+    lines = [f"({sender}, {letter(l)})" for sender, l, _ in log]
+    out += f"\n-- what the sequencer hears: the sender's server number, and the letter\nabbrev heard : List (ℕ × Letter)\nheard ={stacked(lines)}\n"
+    out += ("\n-- the sequencer after so many letters\nabbrev after : ℕ → Sequencer\n"
+            "after k = fold (λ s l. (hear_sequencer w s l.0 l.1).state) (first_servers w).sequencer (take k heard)\n")
+    out += ("\n-- what the next letter sends\nabbrev sent : ℕ → List Out\n"
+            "sent k = option_map_or (λ l. (hear_sequencer w (after k) l.0 l.1).outs) (slice_get heard k) []\n")
+    out += f"\n-- the history at the end\nentries : (after {len(log)}).history ≡{stacked([entry(e) for e in es])}\nentries = refl\n"
+    out += "\n-- what each letter sends, in order\n"
+    for k, (_, _, outs) in enumerate(log):
+        sends = listed([f"({to}, {session}, {message(m)})" for to, session, m in outs])
+        out += f"{chr(10) * (k > 0)}sent_{k} : sent {k} ≡ {sends}\nsent_{k} = refl\n"
+    return out
+
+
+def run_of(shows, w, schedule):
+    """An example of a run: what is told at its end, its clocks and its journals."""
+    world = raid_world.World(w)
+    for p in schedule:
+        assert world.pick(p)
+    out = f"-- {shows}\n{HEAD}{STEPS_IMPORTS}"
+    out += f"\n-- what is run\nabbrev w : Workload\nw = {workload(w)}\n"
+    picks = listed([f"takes {a} {b}" for a, b in schedule])
+    out += f"\n-- who takes a letter from whom\nabbrev schedule : List Pick\nschedule = {picks}\n"
+    out += f"\n-- what is told at the end\nabbrev told : Report\ntold = {report(world.report())}\n"
+    out += "\n-- the run ends so\nends_so : report w (run w schedule).servers ≡ told\nends_so = refl\n"
+    out += "\n-- each pick found a letter\nis_one : is_schedule w schedule ≡ true\nis_one = refl\n"
+    out += f"\n-- {'no letter is left' if world.idle() else 'letters are left'}\nidle : is_idle (run w schedule) ≡ {boolean(world.idle())}\nidle = refl\n"
+    out += f"\n-- the servers' clocks, in the order of their numbers\nclocks : (run w schedule).clocks ≡ {numbers(world.clocks)}\nclocks = refl\n"
+    journals = stacked([listed([f"step {c} {f}" for c, f in j]) for j in world.journals])
+    out += f"\n-- the steps of each server\njournals : (run w schedule).journals ≡{journals}\njournals = refl\n"
+    return out
+
+
+def fixed(shows, *lines):
+    """An example of a run in the fixed order of picks."""
+    w = test_rows.workload(test_rows.text(*lines))
+    return run_of(shows, w, raid_world.run_fixed(raid_world.World(w)))
+
+
+def stop_in_run(shows):
+    _, _, world = test_rows.run14(True)
+    return run_of(shows, world.w, raid_world.merged(world))
+
+
+TWO_SITES = dict(sites=2, homes=[2])
+STEPS_EXAMPLES = {
+    "FirstRun": lambda: fixed("A run of one transaction at one site, letter by letter.", "workload 1", "sites 1 together 1",
+                              "item x 100 at 1", "open lock native", "program 1", "read x r0", "write x r0 + 5", "end", "done"),
+    "ReadElsewhere": lambda: fixed("A run in which the only site that holds the item is not the home.", "workload 1",
+                                   "sites 2 together 1", "item x 5 at 2", "open lock native", "program 1", "read x r0",
+                                   "write x r0 + 1", "end", "done"),
+    "StopInRun": lambda: stop_in_run("A run in which a site stops before it takes an Apply. Its copy is locked and, after its return, renewed."),
+    "DeadlockHeard": lambda: heard("The second of two commits would close a cycle of waits: one letter gives its abort and the other's commit.",
+                                   test_rows.LETTERS6),
+    "CopierHeard": lambda: heard("Two sites that hold an item are down in turn. The one that missed the write gets a copy once the other is back.",
+                                 test_rows.LETTERS17, sites=3, homes=[3, 3], holders="1 2"),
+    "LateCopy": lambda: heard("A copy that comes after the item was written again unlocks nothing.",
+                              test_rows.LETTERS17[:9] + ["begin 3", "commit 3 - x=9 2,2,1", "done x 3 @2 /2"], sites=3,
+                              homes=[3, 3, 3], holders="1 2"),
+    "LateDown": lambda: heard("A site stops and returns, and its Hello comes before the Down is announced: the late Down gives nothing.",
+                              ["begin 1", "hello @2 /2", "down 2 1"], **TWO_SITES),
+    "LostBegin": lambda: heard("A Begin of an old session is dropped, and the site's welcome names the transaction again.",
+                               ["down 2 1", "begin 1", "hello @2 /2", "begin 1 /2"], **TWO_SITES),
+    "DoubleStop": lambda: heard("A site stops twice before its Hello is heard: it comes up, and goes down again in the same step.",
+                                ["down 2 1", "down 2 2", "hello @2 /2"], **TWO_SITES),
+    "StaleCommit": lambda: heard("A commit was prepared at a site that has stopped and returned since: it is refused.",
+                                 ["begin 1", "down 2 1", "hello @2 /2", "commit 1 - x=1 1,1"], sites=2),
+    "AttemptHeard": lambda: heard("A transaction that validation refused begins again as a new one, which commits.",
+                                  LETTERS7 + ["begin 3", "read 3 x", "commit 3 x=5 y=6"], opening="valid native", restarts=1, count=2),
+    "AttemptTwice": lambda: heard("A new attempt begins once, however often it is asked for.", LETTERS7 + ["begin 3", "begin 3"],
+                                  opening="valid native", restarts=1, count=2),
+    "AttemptLost": lambda: heard("A stop of the home ends the attempts that haven't begun.",
+                                 LETTERS7 + ["down 1 1", "hello @1 /2", "begin 3 /2"], opening="valid native", restarts=1,
+                                 count=2, sites=2, holders="1"),
+}
+STEPS_KEPT = ["FirstRun", "StopInRun", "DeadlockHeard", "CopierHeard", "LateDown", "DoubleStop", "StaleCommit", "AttemptHeard"]
+
+
+def steps_example(module, folder):
+    with open(os.path.join(folder, module + ".antt"), "w") as f:
+        f.write(STEPS_EXAMPLES[module]())
+
+
 def main():
     words = sys.argv[1:]
     if words[:1] == ["--all"]:
         for module in LEGAL_EXAMPLES:
-            legal_example(module, words[1])
+            legal_example(module, os.path.join(words[1], "raid_legal", "proofs"))
+        for module in STEPS_EXAMPLES:
+            steps_example(module, os.path.join(words[1], "raid_steps", "proofs"))
         return
-    for module in words or KEPT:
-        legal_example(module, LEGAL)
+    for module in words or KEPT + STEPS_KEPT:
+        if module in LEGAL_EXAMPLES:
+            legal_example(module, LEGAL)
+        else:
+            steps_example(module, STEPS)
 
 
 if __name__ == "__main__":
