@@ -1,7 +1,7 @@
 """Writes proofs, by computation, of what the reference model says of histories and reports."""
 from terms import *
 
-from raid_laws import allowed, asked, request_fits, runs_free
+from raid_laws import allowed, runs_free
 from raid_program import DONE, prog
 from raid_rules import Prefix, answer_commit, answer_read, forced
 
@@ -28,12 +28,12 @@ def lacking(p, t, r):
     """What the request has that the transaction's program doesn't make."""
     o = prog(p.w.program(t), p.seen(t))
     if o.end != DONE:
-        return "apart want_code _ _ refl q.1.1.done"
+        return "apart want_code _ _ refl q.2.done"
     if o.reads != r.reads:
-        return "apart pairs_code _ _ refl q.1.1.reads"
+        return "apart pairs_code _ _ refl q.2.reads"
     if o.writes != r.writes:
-        return "apart pairs_code _ _ refl q.1.1.writes"
-    return "apart count_code _ _ refl q.1.1.sites"
+        return "apart pairs_code _ _ refl q.2.writes"
+    return "apart count_code _ _ refl q.2.sites"
 
 
 def unanswered(p, e, t, answer, code, asks):
@@ -41,7 +41,7 @@ def unanswered(p, e, t, answer, code, asks):
     if not runs_free(p, t):
         return "untrue q.0"
     if answer != e:
-        return f"apart {code} _ _ refl q.1.0"
+        return f"apart {code} _ _ refl q.1"
     return asks()
 
 
@@ -63,12 +63,12 @@ def refusing(p, e):
     if forced(p) is not None:
         return "λ q. apart entry_code _ _ refl q"
     if sort == "Begin":
-        known = p.w.home(e.txn) if 1 <= e.txn <= p.w.count else 0
-        return "λ q. untrue q.1" if known == e.home else "λ q. apart site_code _ _ refl q.0"
+        home = p.w.programs[(e.txn - 1) % len(p.w.programs)].home
+        return "λ q. untrue q.1" if home == e.home else "λ q. apart site_code _ _ refl q.0"
     if sort == "Read" or act_sort == "ReadAct":
         x = e.item if sort == "Read" else e.act.item
         answer = answer_read(p, e.txn, x) if runs_free(p, e.txn) else None
-        return "λ q. " + unanswered(p, e, e.txn, answer, "entry_code", lambda: "untrue q.1.1")
+        return "λ q. " + unanswered(p, e, e.txn, answer, "entry_code", lambda: "untrue q.2")
     if sort in ("Wait", "Commit") or act_sort == "CommitAct":
         r = e.act.request if sort == "Abort" else e.request
         answer = answer_commit(p, e.txn, r) if runs_free(p, e.txn) else None

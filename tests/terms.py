@@ -3,6 +3,7 @@
 The model lies at RAID_ORACLE, by default ../shared/oracle beside the repository.
 """
 import os
+import re
 import sys
 
 HERE = os.path.dirname(os.path.abspath(__file__))
@@ -14,7 +15,7 @@ METHODS = dict(generic="Generic", convert="Convert", suffix="Suffix")
 CAUSES = dict(own="Own", overflow="Overflow", late="Late", invalid="Invalid", cycle="Cycle",
               deadlock="Deadlock", homedown="HomeDown", nocopy="NoCopy")
 
-HEAD = """use Rattle.std.specs.Prelude.{◌≡◌, ℕ, ℤ, pos, negsuc, Bool, true, false, List, [], ◌∷◌, take, Option, Some, None, fold, refl}
+HEAD = """use Rattle.std.specs.Prelude.{◌≡◌, ℕ, ℤ, pos, negsuc, Bool, true, false, List, [], ◌∷◌, take, slice_get, Option, Some, None, fold, refl}
 use Rattle.raid_base.specs.declared.names.Txn.{Txn}
 use Rattle.raid_base.specs.declared.names.Item.{Item}
 use Rattle.raid_base.specs.declared.names.Site.{Site}
@@ -37,6 +38,23 @@ use Rattle.raid_legal.specs.Sound.{Sound}
 use Rattle.raid_legal.proofs.Scene.{◌also◌, txn, item, site, t1, t2, t3, t4, x, y, z, s1, s2, s3, request, item_line, switch, stops, returns, home_at, sum, number, load, store, stop_if, copy_line}
 use Rattle.raid_legal.proofs.Apart.{apart, untrue, site_code, count_code, pairs_code, entry_code, answer_code, want_code}
 """
+
+
+def used(head, body):
+    """Of the head's imports those that the body uses, its comments aside."""
+    body = re.sub(r"--.*", "", body)
+    kept = []
+    for line in head.splitlines():
+        if " as " in line and "{" not in line:
+            if f"{line.split()[-1]}." in body:
+                kept.append(line)
+            continue
+        where, words = line[:-1].split("{")
+        words = [word for word in words.split(", ")
+                 if re.search(r"(?<![\w.])" + re.escape(word.strip("◌")) + r"(?!\w)", body)]
+        if words:
+            kept.append(f"{where}{{{', '.join(words)}}}")
+    return "\n".join(kept) + "\n"
 
 
 def name(value):

@@ -172,8 +172,7 @@ def legal_example(module, folder):
     shows, make = LEGAL_EXAMPLES[module]
     w, r = make()
     facts = FACTS.get(module, [])
-    out = f"-- {shows}\n{HEAD}{FACT_IMPORTS if facts else ''}"
-    out += f"\n-- what was run\nabbrev w : Workload\nw = {workload(w)}\n"
+    out = f"\n-- what was run\nabbrev w : Workload\nw = {workload(w)}\n"
     out += f"\n-- what is told of it\nabbrev told : Report\ntold = {report(r)}\n"
     if facts:
         out += "\n-- the first entries\nabbrev before : ℕ → List Noted\nbefore k = noted (take k told.entries)\n"
@@ -181,11 +180,10 @@ def legal_example(module, folder):
         out += f"\n-- {comment}\n{name_} : {statement_}\n{name_} = refl\n"
     out += sound_parts(w, r)
     with open(os.path.join(folder, module + ".antt"), "w") as f:
-        f.write(out)
+        f.write(f"-- {shows}\n{used(HEAD + FACT_IMPORTS, out)}{out}")
 
 
-STEPS_IMPORTS = """use Rattle.std.specs.Prelude.{slice_get}
-use Rattle.std.specs.Option.{option_map_or}
+STEPS_IMPORTS = """use Rattle.std.specs.Option.{option_map_or}
 use Rattle.raid_message.specs.declared.letter.Letter.{Letter}
 use Rattle.raid_message.specs.declared.letter.Message.TheVariants as letters
 use Rattle.raid_message.specs.declared.letter.Pick.{Pick}
@@ -215,8 +213,7 @@ def letters_heard(letters, **options):
 def heard(shows, *args, **options):
     """An example of letters to the sequencer: its history after them, and what each sends."""
     w, log, es = letters_heard(*args, **options)
-    out = f"-- {shows}\n{HEAD}{STEPS_IMPORTS}"
-    out += f"\n-- what is run\nabbrev w : Workload\nw = {workload(w)}\n"
+    out = f"\n-- what is run\nabbrev w : Workload\nw = {workload(w)}\n"
     lines = [f"({sender}, {letter(l)})" for sender, l, _ in log]
     out += f"\n-- what the sequencer hears: the sender's server number, and the letter\nabbrev heard : List (ℕ × Letter)\nheard ={stacked(lines)}\n"
     out += ("\n-- the sequencer after so many letters\nabbrev after : ℕ → Sequencer\n"
@@ -228,7 +225,7 @@ def heard(shows, *args, **options):
     for k, (_, _, outs) in enumerate(log):
         sends = listed([f"({to}, {session}, {message(m)})" for to, session, m in outs])
         out += f"{chr(10) * (k > 0)}sent_{k} : sent {k} ≡ {sends}\nsent_{k} = refl\n"
-    return out
+    return f"-- {shows}\n{used(HEAD + STEPS_IMPORTS, out)}{out}"
 
 
 def run_of(shows, w, schedule):
@@ -236,8 +233,7 @@ def run_of(shows, w, schedule):
     world = raid_world.World(w)
     for p in schedule:
         assert world.pick(p)
-    out = f"-- {shows}\n{HEAD}{STEPS_IMPORTS}"
-    out += f"\n-- what is run\nabbrev w : Workload\nw = {workload(w)}\n"
+    out = f"\n-- what is run\nabbrev w : Workload\nw = {workload(w)}\n"
     picks = listed([f"takes {a} {b}" for a, b in schedule])
     out += f"\n-- who takes a letter from whom\nabbrev schedule : List Pick\nschedule = {picks}\n"
     out += f"\n-- what is told at the end\nabbrev told : Report\ntold = {report(world.report())}\n"
@@ -247,7 +243,7 @@ def run_of(shows, w, schedule):
     out += f"\n-- the servers' clocks, in the order of their numbers\nclocks : (run w schedule).clocks ≡ {numbers(world.clocks)}\nclocks = refl\n"
     journals = stacked([listed([f"step {c} {f}" for c, f in j]) for j in world.journals])
     out += f"\n-- the steps of each server\njournals : (run w schedule).journals ≡{journals}\njournals = refl\n"
-    return out
+    return f"-- {shows}\n{used(HEAD + STEPS_IMPORTS, out)}{out}"
 
 
 def fixed(shows, *lines):

@@ -1,34 +1,21 @@
 -- A conversion to locking aborts the transaction whose read was overwritten, directly behind its SwitchOn.
-use Rattle.std.specs.Prelude.{◌≡◌, ℕ, ℤ, pos, negsuc, Bool, true, false, List, [], ◌∷◌, take, Option, Some, None, fold, refl}
-use Rattle.raid_base.specs.declared.names.Txn.{Txn}
-use Rattle.raid_base.specs.declared.names.Item.{Item}
-use Rattle.raid_base.specs.declared.names.Site.{Site}
-use Rattle.raid_base.specs.declared.entry.Entry.{Entry}
-use Rattle.raid_base.specs.declared.entry.Entry.TheVariants.{Begin, Read, Wait, Commit, Abort, Ack, SwitchOn, SwitchEnd, Down, Up, Clear}
+use Rattle.std.specs.Prelude.{◌≡◌, ℕ, pos, List, [], ◌∷◌, take, refl}
+use Rattle.raid_base.specs.declared.entry.Entry.TheVariants.{Begin, Read, Commit, Abort, Ack, SwitchOn}
 use Rattle.raid_base.specs.declared.entry.Act.TheVariants as acts
-use Rattle.raid_base.specs.declared.entry.Answer.TheVariants as answers
 use Rattle.raid_base.specs.declared.entry.Cause.TheVariants as causes
 use Rattle.raid_base.specs.declared.verdict.Kind.TheVariants as kinds
 use Rattle.raid_base.specs.declared.verdict.Method.TheVariants as methods
 use Rattle.raid_base.specs.declared.verdict.Structure.TheVariants as structures
 use Rattle.raid_base.specs.declared.report.Report.{Report}
-use Rattle.raid_program.specs.declared.program.Term.TheVariants as terms
 use Rattle.raid_workload.specs.declared.workload.Workload.{Workload}
 use Rattle.raid_rules.specs.History.{noted}
-use Rattle.raid_legal.specs.Legal.{Legal, Allowed}
+use Rattle.raid_legal.specs.Legal.{Legal}
 use Rattle.raid_legal.specs.Serial.{Serial, Copies}
 use Rattle.raid_legal.specs.Switched.{Switched, Finished}
 use Rattle.raid_legal.specs.Sound.{Sound}
-use Rattle.raid_legal.proofs.Scene.{◌also◌, txn, item, site, t1, t2, t3, t4, x, y, z, s1, s2, s3, request, item_line, switch, stops, returns, home_at, sum, number, load, store, stop_if, copy_line}
-use Rattle.raid_legal.proofs.Apart.{apart, untrue, site_code, count_code, pairs_code, entry_code, answer_code, want_code}
+use Rattle.raid_legal.proofs.Scene.{◌also◌, t1, t2, x, y, z, s1, request, item_line, switch, home_at, number, load, store, copy_line}
 use Rattle.raid_base.specs.declared.entry.Noted.{Noted}
-use Rattle.raid_base.specs.declared.verdict.Refusal.TheVariants as refusals
-use Rattle.raid_base.specs.declared.verdict.Verdict.TheVariants as verdicts
-use Rattle.raid_rules.specs.Verdicts.{reading, writing, verdict_of}
-use Rattle.raid_legal.specs.Seen.{is_locked, sources, again}
-use Rattle.raid_legal.specs.InForce.{off_list, verdict, end_due}
-use Rattle.raid_legal.specs.Answers.{closes_waits}
-use Rattle.raid_legal.specs.Forced.{woken}
+use Rattle.raid_legal.specs.InForce.{off_list}
 
 -- what was run
 abbrev w : Workload

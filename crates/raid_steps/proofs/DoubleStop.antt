@@ -1,35 +1,17 @@
 -- A site stops twice before its Hello is heard: it comes up, and goes down again in the same step.
-use Rattle.std.specs.Prelude.{◌≡◌, ℕ, ℤ, pos, negsuc, Bool, true, false, List, [], ◌∷◌, take, Option, Some, None, fold, refl}
-use Rattle.raid_base.specs.declared.names.Txn.{Txn}
-use Rattle.raid_base.specs.declared.names.Item.{Item}
-use Rattle.raid_base.specs.declared.names.Site.{Site}
-use Rattle.raid_base.specs.declared.entry.Entry.{Entry}
-use Rattle.raid_base.specs.declared.entry.Entry.TheVariants.{Begin, Read, Wait, Commit, Abort, Ack, SwitchOn, SwitchEnd, Down, Up, Clear}
-use Rattle.raid_base.specs.declared.entry.Act.TheVariants as acts
-use Rattle.raid_base.specs.declared.entry.Answer.TheVariants as answers
-use Rattle.raid_base.specs.declared.entry.Cause.TheVariants as causes
+use Rattle.std.specs.Prelude.{◌≡◌, ℕ, pos, List, [], ◌∷◌, take, slice_get, fold, refl}
+use Rattle.raid_base.specs.declared.entry.Entry.TheVariants.{Down, Up}
 use Rattle.raid_base.specs.declared.verdict.Kind.TheVariants as kinds
-use Rattle.raid_base.specs.declared.verdict.Method.TheVariants as methods
 use Rattle.raid_base.specs.declared.verdict.Structure.TheVariants as structures
-use Rattle.raid_base.specs.declared.report.Report.{Report}
-use Rattle.raid_program.specs.declared.program.Term.TheVariants as terms
 use Rattle.raid_workload.specs.declared.workload.Workload.{Workload}
-use Rattle.raid_rules.specs.History.{noted}
-use Rattle.raid_legal.specs.Legal.{Legal, Allowed}
-use Rattle.raid_legal.specs.Serial.{Serial, Copies}
-use Rattle.raid_legal.specs.Switched.{Switched, Finished}
-use Rattle.raid_legal.specs.Sound.{Sound}
-use Rattle.raid_legal.proofs.Scene.{◌also◌, txn, item, site, t1, t2, t3, t4, x, y, z, s1, s2, s3, request, item_line, switch, stops, returns, home_at, sum, number, load, store, stop_if, copy_line}
-use Rattle.raid_legal.proofs.Apart.{apart, untrue, site_code, count_code, pairs_code, entry_code, answer_code, want_code}
-use Rattle.std.specs.Prelude.{slice_get}
+use Rattle.raid_legal.proofs.Scene.{s1, s2, item_line, home_at, number}
 use Rattle.std.specs.Option.{option_map_or}
 use Rattle.raid_message.specs.declared.letter.Letter.{Letter}
 use Rattle.raid_message.specs.declared.letter.Message.TheVariants as letters
-use Rattle.raid_message.specs.declared.letter.Pick.{Pick}
 use Rattle.raid_steps.specs.State.{Out, Sequencer}
 use Rattle.raid_steps.specs.Sequencer.{hear_sequencer}
-use Rattle.raid_steps.specs.World.{run, report, is_schedule, is_idle, first_servers}
-use Rattle.raid_steps.proofs.Mail.{letter, takes, step}
+use Rattle.raid_steps.specs.World.{run, first_servers}
+use Rattle.raid_steps.proofs.Mail.{letter}
 
 -- what is run
 abbrev w : Workload
