@@ -1,1 +1,10 @@
+mod AttemptHeard
+mod CopierHeard
+mod DeadlockHeard
+mod DoubleStop
+mod FirstRun
+mod LateDown
+pub mod Mail
 pub mod Settle
+mod StaleCommit
+mod StopInRun
