@@ -11,7 +11,8 @@ use Rattle.raid_base.specs.declared.entry.Noted.{Noted}
 use Rattle.raid_base.specs.Names.{is_txn, is_site, has_site, attempt_of}
 use Rattle.raid_workload.specs.declared.workload.Workload.{Workload}
 use Rattle.raid_workload.specs.Parts.{txns, sites, placement, initial, home, program}
-use Rattle.raid_program.specs.Run.{Answers, Outcome, outcome_of}
+use Rattle.raid_program.specs.declared.program.Outcome.{Outcome}
+use Rattle.raid_program.specs.Run.{Answers, outcome_of}
 use Rattle.raid_rules.specs.Entries.{is_abort, is_down, reads_item}
 use Rattle.raid_rules.specs.History.{fold_seeing, is_running, has_begun, value}
 use Rattle.raid_rules.specs.Sessions as rules

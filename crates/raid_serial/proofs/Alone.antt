@@ -10,7 +10,8 @@ use Rattle.raid_base.specs.declared.entry.Entry.{Entry as Real}
 use Rattle.raid_base.specs.declared.entry.Noted.{Noted as RNoted}
 use Rattle.raid_base.specs.Names.{is_txn, has_txn}
 use Rattle.raid_base.specs.Find.{first_of}
-use Rattle.raid_program.specs.Run.{Answers, Outcome, outcome_of, serially, written, is_done, or_else as else_value}
+use Rattle.raid_program.specs.declared.program.Outcome.{Outcome}
+use Rattle.raid_program.specs.Run.{Answers, outcome_of, serially, written, is_done, or_else as else_value}
 use Rattle.raid_program.specs.declared.program.Want.TheVariants as wants
 use Rattle.raid_workload.specs.declared.workload.Workload.{Workload}
 use Rattle.raid_workload.specs.Parts.{program, initial as first_value}

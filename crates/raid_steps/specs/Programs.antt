@@ -12,7 +12,8 @@ use Rattle.raid_base.specs.Find.{first_of}
 use Rattle.raid_base.specs.Sites.{all_sites}
 use Rattle.raid_program.specs.declared.program.Want.{Want}
 use Rattle.raid_program.specs.declared.program.Want.TheVariants as wants
-use Rattle.raid_program.specs.Run.{Outcome, outcome_of, put}
+use Rattle.raid_program.specs.declared.program.Outcome.{Outcome}
+use Rattle.raid_program.specs.Run.{outcome_of, put}
 use Rattle.raid_workload.specs.declared.workload.Workload.{Workload}
 use Rattle.raid_workload.specs.Parts.{count_from, txns, sites, placement, home, program}
 use Rattle.raid_rules.specs.Sessions.{holders, is_site_up}
