@@ -127,9 +127,10 @@ of_stop c d p s want o here t = record {
       o.goes_on a (subst (λ (z : Progress). Agree (λ x. holds x z.reads) a (given z.reads)) t.same agree) ∙ ap (λ z. run_from a z (drop c.place p)) (sym t.same) ∙ ap (λ k. run_from a (progress d) (drop k p)) (sym t.place);
   waits = λ x e.
       let reads : want ≡ Read x = asked_is want x (sym t.asked ∙ e) in
-      let is : s ≡ statements.Read x d.register = t.reads x reads in
-      (ap (λ k. slice_get p k) t.place ∙ here ∙ ap (λ z. Some z) is,
-      ap (λ z. known z x) t.same ∙ step_unknown (progress c) s x d.register is (t.step ∙ ap (λ w. Err w) reads));
+      let is : s ≡ statements.Read x d.register = t.reads x reads in (
+        ap (λ k. slice_get p k) t.place ∙ here ∙ ap (λ z. Some z) is,
+        ap (λ z. known z x) t.same ∙ step_unknown (progress c) s x d.register is (t.step ∙ ap (λ w. Err w) reads),
+      );
 }
 
 -- the outcome on the answers given, where the run stops before its next statement, and where none is left
