@@ -199,10 +199,10 @@ module _ (p : List Noted) where
     first : (t : Txn) × (has_txn left t ≡ true)
     first =
         let some_out : 0 < many (out (listing (edges p) (committed p))) (committed p) =
-            ⊎_elim
-            (λ (none : many (out (listing (edges p) (committed p))) (committed p) ≡ 0). absurd (true≢false (sym (all_in (listing (edges p) (committed p)) (committed p) none) ∙ some)))
-            (λ (l : 0 < many (out (listing (edges p) (committed p))) (committed p)). l)
-            (zero_or (many (out (listing (edges p) (committed p))) (committed p))) in
+        ⊎_elim
+        (λ (none : many (out (listing (edges p) (committed p))) (committed p) ≡ 0). absurd (true≢false (sym (all_in (listing (edges p) (committed p)) (committed p) none) ∙ some)))
+        (λ (l : 0 < many (out (listing (edges p) (committed p))) (committed p)). l)
+        (zero_or (many (out (listing (edges p) (committed p))) (committed p))) in
         let f = many_some (out (listing (edges p) (committed p))) (committed p) some_out in
         (f.0, has_kept (out (listing (edges p) (committed p))) f.0 (committed p) ∙ and_from _ _ f.2 f.1)
 
@@ -231,3 +231,17 @@ module _ (p : List Noted) where
     | inl w ↦ absurd (serial_acyclic (listing (edges p) (committed p)) (whole_serial w) t c)
     | inr some ↦ ap (λ b. if b then listing (edges p) (committed p) else []) some
   ]
+
+-- one more entry, and who is committed
+pub committed_push : (p : List Noted) (n : Noted) → committed (p ++ n ∷ []) ≡ committed p ++ map (λ c. c.0) (option_to_list (commit_of n.entry))
+committed_push [] n = go (commit_of n.entry)
+  where
+    go : (o : Option (Txn × Request)) → map (λ c. c.0) (cons_option o []) ≡ map (λ c. c.0) (option_to_list o)
+    go None = refl
+    go (Some c) = refl
+committed_push (m ∷ ms) n = go (commit_of m.entry) (committed_push ms n)
+  where
+    go : (o : Option (Txn × Request)) → committed (ms ++ n ∷ []) ≡ committed ms ++ map (λ c. c.0) (option_to_list (commit_of n.entry)) →
+        map (λ c. c.0) (cons_option o (commits (ms ++ n ∷ []))) ≡ map (λ c. c.0) (cons_option o (commits ms)) ++ map (λ c. c.0) (option_to_list (commit_of n.entry))
+    go None h = h
+    go (Some c) h = ap (λ xs. c.0 ∷ xs) h

@@ -23,7 +23,7 @@ use Rattle.raid_legal.specs.Seen.{value_of}
 use Rattle.raid_legal.specs.InForce.{in_force}
 use Rattle.raid_legal.specs.Legal.{Legal}
 use Rattle.raid_legal.specs.Serial.{RunsInOrder, table_after, first_table}
-use Rattle.raid_serial.specs.Committed.{CommittedEdge, AllOnce, is_before, IsSerialOrder}
+use Rattle.raid_rules.specs.Committed.{CommittedEdge, AllOnce, is_before, IsSerialOrder}
 use Rattle.raid_serial.proofs.Model.{Mem}
 use Rattle.raid_serial.proofs.Verdicts.{Com}
 use Rattle.raid_serial.proofs.System.{Hist, CEdge}
