@@ -4,6 +4,7 @@ mod DeadlockHeard
 mod DoubleStop
 mod FirstRun
 mod LateDown
+pub mod Links
 pub mod Mail
 pub mod Settle
 mod StaleCommit
