@@ -55,7 +55,7 @@ pub record AnswersAlike (t s : Tables) : Type 0 where
 pub record Begins (t s : Tables) (u : Txn) (number : ℕ) : Type 0 where
   pub rows : (w : Txn) → row s w ≡ (if is_txn w u then record { stamp = number; runs = true } else row t w)
   pub running : (w : Txn) → has_txn s.running w ≡ (has_txn t.running w || is_txn w u)
-  pub ascends : Ascends t.running → has_txn t.running u ≡ false → Ascends s.running
+  pub ascends : Ascends t.running → Ascends s.running
   pub versions : (x : Item) → version_in s x ≡ version_in t x
   pub ends : s.ends ≡ t.ends
 
