@@ -33,16 +33,16 @@ version_in t x = slice_index t.versions.items x.0
 abbrev pub Ascends : List Txn → Type 0
 Ascends ts = AllPairs (λ a b. a.0 < b.0) ts
 
--- the tables answer each question as the history does
-pub record Stands (t : Tables) (h : List Entry) : Type 0 where
-  pub stamps : (u : Txn) → (row t u).stamp ≡ stamp (noted h) u
-  pub runs : (u : Txn) → (row t u).runs ≡ is_running (noted h) u
-  pub running : (u : Txn) → has_txn t.running u ≡ is_running (noted h) u
+-- the tables answer each question as the noted entries do
+pub record Stands (t : Tables) (p : List Noted) : Type 0 where
+  pub stamps : (u : Txn) → (row t u).stamp ≡ stamp p u
+  pub runs : (u : Txn) → (row t u).runs ≡ is_running p u
+  pub running : (u : Txn) → has_txn t.running u ≡ is_running p u
   pub ascends : Ascends t.running
-  pub versions : (x : Item) → version_in t x ≡ version (noted h) x
-  pub ends : t.ends ≡ ends (noted h)
-  pub few : t.ends ≤ length h
-  pub begun : (u : Txn) → has_ended (noted h) u ≡ true → has_begun (noted h) u ≡ true
+  pub versions : (x : Item) → version_in t x ≡ version p x
+  pub ends : t.ends ≡ ends p
+  pub few : t.ends ≤ length p
+  pub begun : (u : Txn) → has_ended p u ≡ true → has_begun p u ≡ true
 
 -- the tables answer as before
 pub record AnswersAlike (t s : Tables) : Type 0 where

@@ -1,10 +1,12 @@
-ghost use Rattle.std.specs.Prelude.{◌≡◌, ◌<◌, ◌≤◌, ◌+◌, ◌||◌, not, nat_lt, ◌^◌, false, ℕ, List, ◌∷◌, [], ◌++◌, filter, length, vec_len, slice_index_or, slice_index, All, IfOk, OnOk, OnErr, if◌then◌else◌};
+ghost use Rattle.std.specs.Prelude.{◌≡◌, ◌<◌, ◌≤◌, ◌+◌, ◌||◌, not, nat_lt, ◌^◌, true, ℕ, List, ◌∷◌, [], ◌++◌, filter, length, vec_len, slice_index_or, slice_index, All, IfOk, OnOk, OnErr, if◌then◌else◌};
 ghost use Rattle.raid_base.specs.declared.names.Txn.{Txn};
 ghost use Rattle.raid_base.specs.declared.names.Item.{Item};
 ghost use Rattle.raid_base.specs.Names.{is_txn, has_txn, holds};
-ghost use Rattle.raid_history.specs.Tables.{version_in, Ascends, AnswersAlike, Begins, Ends, placed};
+ghost use Rattle.raid_base.specs.declared.entry.Noted.{Noted};
+ghost use Rattle.raid_rules.specs.History.{add};
+ghost use Rattle.raid_history.specs.Tables.{row, version_in, AnswersAlike, Begins, Ends, Stands, may_follow, placed};
 
-use raid_base::{Item, NoMemory, Pairs, Txn, TxnList};
+use raid_base::{Entry, Item, NoMemory, Pairs, Txn, TxnList};
 use std::alloc::Global;
 
 /// What is known of a transaction: its stamp, 0 where it hasn't begun, and whether it is running.
@@ -115,6 +117,45 @@ fn without(alloc: Global, txns: &TxnList, txn: Txn) -> Result<TxnList, NoMemory>
 }
 
 impl Tables {
+    /// The tables of the empty history, with room for so many transactions and items.
+    pub fn new(alloc: Global, transactions: u32, items: u32) -> Result<Tables, NoMemory>
+        ensures { IfOk result (λ t. Stands t []) }
+    {
+        let rows = Vec::with_capacity(alloc, transactions as usize + 1)?;
+        let versions = Vec::with_capacity(alloc, items as usize)?;
+        Ok(Tables {
+            rows,
+            versions,
+            running: TxnList::new(alloc),
+            ends: 0,
+            alloc,
+        })
+    }
+
+    /// The transaction's row, blank where there is none.
+    pub fn row(&self, txn: Txn) -> Row
+        ensures { result ≡ row self.now txn }
+    {
+        let place = txn.0 as usize;
+        if place < self.rows.len() {
+            self.rows[place]
+        } else {
+            Row::BLANK
+        }
+    }
+
+    /// The item's version, 0 where there is none.
+    pub fn version(&self, item: Item) -> u32
+        ensures { result ≡ version_in self.now item }
+    {
+        let place = item.0 as usize;
+        if place < self.versions.len() {
+            self.versions[place]
+        } else {
+            0
+        }
+    }
+
     /// Notes that the transaction begins with the entry of this number. After want of memory the tables say what
     /// they said.
     fn begin(&mut self, txn: Txn, number: u32) -> Result<(), NoMemory>
@@ -160,5 +201,26 @@ impl Tables {
         self.end(txn)?;
         raise_all(&mut self.versions, writes.as_slice(), number);
         Ok(())
+    }
+
+    /// Notes the entry that comes next, which has this number. After want of memory the tables say what they said.
+    pub fn note(&mut self, number: u32, entry: &Entry) -> Result<(), NoMemory>
+        requires { self.old.ends + 1 < 2 ^ 32 }
+        ensures ok { OnOk result ((p : List Noted) → Stands self.old p → number ≡ length p + 1 → may_follow p entry.now ≡ true → Stands self.new (add p entry.now)) }
+        ensures err { OnErr result ((p : List Noted) → Stands self.old p → Stands self.new p) }
+    {
+        match entry {
+            Entry::Begin { txn, .. } => self.begin(*txn, number),
+            Entry::Commit { txn, request, .. } => self.commit(*txn, number, &request.writes),
+            Entry::Abort { txn, .. } => self.end(*txn),
+            Entry::Read { .. }
+            | Entry::Wait { .. }
+            | Entry::Ack { .. }
+            | Entry::SwitchOn { .. }
+            | Entry::SwitchEnd { .. }
+            | Entry::Down { .. }
+            | Entry::Up { .. }
+            | Entry::Clear { .. } => Ok(()),
+        }
     }
 }
