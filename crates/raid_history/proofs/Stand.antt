@@ -36,6 +36,7 @@ stands_alike t s p o a = record {
   versions = λ x. a.versions x ∙ o.versions x;
   ends = a.ends ∙ o.ends;
   few = omega (arith, o.few, a.ends);
+  stamped = o.stamped;
   begun = o.begun;
 }
 
@@ -57,6 +58,7 @@ stands_other t p e begins ends-of no-end writes o = record {
   versions = λ x. o.versions x ∙ grind (arith, common_steps, number_of_push (λ e. holds x (writes_of e)) p (next p e), writes);
   ends = o.ends ∙ grind (arith, common_steps, ends_push p (next p e), no-end);
   few = omega (arith, o.few, length_push p (next p e));
+  stamped = λ u. grind (arith, common_steps, number_of_push (is_begin_of u) p (next p e), has_begun_push p (next p e) u, begins u, o.stamped u);
   begun = λ u h. grind (arith, common_steps, has_ended_push p (next p e) u, has_begun_push p (next p e) u, begins u, ends-of u, o.begun u, h);
 }
 
@@ -76,6 +78,7 @@ stands_begin t s p u home number is not-begun o b =
       versions = λ x. b.versions x ∙ o.versions x ∙ grind (arith, common_steps, number_of_push (λ e. holds x (writes_of e)) p n);
       ends = b.ends ∙ o.ends ∙ grind (arith, common_steps, ends_push p n);
       few = omega (arith, o.few, b.ends, length_push p n);
+      stamped = λ w. grind (arith, common_steps, number_of_push (is_begin_of w) p n, has_begun_push p n w, o.stamped w);
       begun = λ w h. grind (arith, common_steps, has_ended_push p n w, has_begun_push p n w, o.begun w, h);
     }
 
@@ -101,6 +104,7 @@ stands_end t s p u e begins ends-of end runs versions o d =
       versions = λ x. versions x ∙ grind (arith, common_steps, number_of_push (λ e. holds x (writes_of e)) p n, o.versions x);
       ends = d.ends ∙ grind (arith, common_steps, o.ends, ends_push p n, end);
       few = omega (arith, o.few, d.ends, length_push p n);
+      stamped = λ w. grind (arith, common_steps, number_of_push (is_begin_of w) p n, has_begun_push p n w, begins w, o.stamped w);
       begun = λ w h. grind (arith, common_steps, has_ended_push p n w, has_begun_push p n w, begins w, ends-of w, o.begun w, has_begun_same p u w runs, h);
     }
 

@@ -42,6 +42,7 @@ pub record Stands (t : Tables) (p : List Noted) : Type 0 where
   pub versions : (x : Item) → version_in t x ≡ version p x
   pub ends : t.ends ≡ ends p
   pub few : t.ends ≤ length p
+  pub stamped : (u : Txn) → nat_lt 0 (stamp p u) ≡ has_begun p u
   pub begun : (u : Txn) → has_ended p u ≡ true → has_begun p u ≡ true
 
 -- the tables answer as before

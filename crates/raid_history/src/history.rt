@@ -1,4 +1,4 @@
-ghost use Rattle.std.specs.Prelude.{◌≡◌, ◌==◌, ◌≤◌, ◌<◌, ◌-◌, ◌^◌, true, [], ◌∷◌, ◌++◌, length, slice_get, Some, AllPairs, IfOk, OnOk, OnErr};
+ghost use Rattle.std.specs.Prelude.{◌≡◌, ◌==◌, nat_lt, ◌≤◌, ◌<◌, ◌-◌, ◌^◌, true, [], ◌∷◌, ◌++◌, length, slice_get, Some, AllPairs, IfOk, OnOk, OnErr};
 ghost use Rattle.raid_base.specs.declared.names.Txn.{Txn};
 ghost use Rattle.raid_base.specs.Names.{has_txn};
 ghost use Rattle.raid_rules.specs.History as rules;
@@ -69,8 +69,28 @@ impl History {
         &self.entries[number as usize - 1]
     }
 
-    /// Adds an entry at the end. A transaction begins once, and reads, waits, commits and is aborted only while it
-    /// is running. After want of memory the history is as it was.
+    /// Whether the entry may come next: a transaction begins once, and reads, waits, commits and is aborted only
+    /// while it is running.
+    pub fn may_push(&self, entry: &Entry) -> bool
+        ensures { result ≡ may_follow (rules.noted self.now) entry.now }
+    {
+        match entry {
+            Entry::Begin { txn, .. } => self.stamp(*txn) == 0,
+            Entry::Read { txn, .. }
+            | Entry::Wait { txn, .. }
+            | Entry::Commit { txn, .. }
+            | Entry::Abort { txn, .. } => self.is_running(*txn),
+            Entry::Ack { .. }
+            | Entry::SwitchOn { .. }
+            | Entry::SwitchEnd { .. }
+            | Entry::Down { .. }
+            | Entry::Up { .. }
+            | Entry::Clear { .. } => true,
+        }
+    }
+
+    /// Adds an entry at the end, where [`may_push`](History::may_push) allows it. After want of memory the history is as
+    /// it was.
     pub fn push(&mut self, entry: Entry) -> Result<(), NoMemory>
         requires short { length self.old < 4294967295 }
         requires fits { may_follow (rules.noted self.old) entry ≡ true }
@@ -101,7 +121,8 @@ impl History {
 
     /// The number of the transaction's Begin, 0 where it hasn't begun.
     pub fn stamp(&self, txn: Txn) -> u32
-        ensures { result ≡ rules.stamp (rules.noted self.now) txn }
+        ensures is { result ≡ rules.stamp (rules.noted self.now) txn }
+        ensures begun { nat_lt 0 result ≡ rules.has_begun (rules.noted self.now) txn }
     {
         self.tables.row(txn).stamp
     }
@@ -118,5 +139,102 @@ impl History {
         ensures { result ≡ rules.version (rules.noted self.now) item }
     {
         self.tables.version(item)
+    }
+}
+
+#[cfg(test)]
+mod tests {
+    use super::*;
+    use raid_base::{Act, Cause, Pairs, Request, Site, Sites, Vector};
+    use std::test::Fail;
+
+    const X: Item = Item(0);
+
+    fn request(alloc: Global, value: i64) -> Result<Request, NoMemory> {
+        let mut writes = Pairs::new(alloc);
+        writes.push((X, value))?;
+        Ok(Request {
+            reads: Pairs::new(alloc),
+            writes,
+            under: Vector {
+                count: 1,
+                sessions: [1, 0, 0, 0, 0, 0, 0, 0],
+            },
+        })
+    }
+
+    /// Two transactions, of which the first waits until the second is aborted.
+    fn entries(alloc: Global) -> Result<[Entry; 7], NoMemory> {
+        let (first, second, site) = (Txn(1), Txn(2), Site(1));
+        Ok([
+            Entry::Begin {
+                txn: second,
+                home: site,
+            },
+            Entry::Begin {
+                txn: first,
+                home: site,
+            },
+            Entry::Read {
+                txn: first,
+                item: X,
+                site,
+            },
+            Entry::Read {
+                txn: second,
+                item: X,
+                site,
+            },
+            Entry::Wait {
+                txn: first,
+                request: request(alloc, 1)?,
+            },
+            Entry::Abort {
+                txn: second,
+                cause: Cause::Deadlock,
+                act: Act::Commit(request(alloc, 2)?),
+            },
+            Entry::Commit {
+                txn: first,
+                request: request(alloc, 1)?,
+                applied: Sites(1),
+            },
+        ])
+    }
+
+    #[test]
+    fn answers_after_each_entry(rt: HostRuntime) -> Result<(), Fail> {
+        let mut history = History::new(rt.alloc(), 0, 0)?;
+        assert!(rt; history.is_empty());
+        for entry in entries(rt.alloc())? {
+            assert!(rt; history.len() < 7);
+            assert!(rt; history.may_push(&entry));
+            history.push(entry)?;
+            if history.len() == 2 {
+                assert_eq!(rt; history.running().as_slice(), [Txn(1), Txn(2)].as_slice());
+            }
+        }
+        assert_eq!(rt; history.len(), 7);
+        assert_eq!(rt;
+            (
+                history.stamp(Txn(1)),
+                history.stamp(Txn(2)),
+                history.stamp(Txn(3))
+            ),
+            (2, 1, 0)
+        );
+        assert_eq!(rt;
+            (
+                history.ends(),
+                history.version_of(X),
+                history.version_of(Item(1))
+            ),
+            (2, 7, 0)
+        );
+        assert!(rt; !history.is_running(Txn(1)));
+        assert!(rt; history.running().is_empty());
+        assert!(rt; history.len() == 7);
+        assert!(rt; matches!(history.entry(6), Entry::Abort { .. }));
+        Ok(())
     }
 }
