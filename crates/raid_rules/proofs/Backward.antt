@@ -55,7 +55,7 @@ module _ (view : List Noted) (t : Txn) (open_still : has_committed view t ≡ fa
   pub edge_backward : (u : Txn) → Edge view t u → is_backward view t ≡ true
   edge_backward u e =
       let r : (reads_item t e.item e.first.entry ≡ true) × (writes_item u e.item e.second.entry ≡ true) =
-          reads_first (writes_item t e.item e.first.entry) (reads_item t e.item e.first.entry) (reads_item u e.item e.second.entry) (writes_item u e.item e.second.entry) (no_write e.first e.item e.in_first) e.clashing in
+      reads_first (writes_item t e.item e.first.entry) (reads_item t e.item e.first.entry) (reads_item u e.item e.second.entry) (writes_item u e.item e.second.entry) (no_write e.first e.item e.in_first) e.clashing in
       let later : nat_lt e.first.at e.second.at ≡ true = grind (arith, common_steps, e.earlier) in
       let over : list_any (is_overwrite t e.first.at e.item) view ≡ true = any_in (is_overwrite t e.first.at e.item) view e.second e.in_second (and_from _ _ later (write_by e.second.entry t u e.item e.differ r.1)) in
       any_in (λ n. is_read (λ v x s. is_txn t v && list_any (is_overwrite t n.at x) view) n.entry) view e.first e.in_first

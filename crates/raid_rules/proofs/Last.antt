@@ -129,8 +129,7 @@ module _ (view : List Noted) (n : Noted) where
         (λ (s : n ≡ e.second).
         (let c : clash u v e.item e.first.entry n.entry ≡ true = subst (λ z. clash u v e.item e.first.entry z.entry ≡ true) (sym s) e.clashing in
         let is : v ≡ t = act_is n.entry t v e.item acts (second_acts (writes_item u e.item e.first.entry) (reads_item u e.item e.first.entry) (reads_item v e.item n.entry) (writes_item v e.item n.entry) c) in
-        inr
-        (
+        inr (
           is,
           record {
             first = e.first;
@@ -196,3 +195,12 @@ module _ (view : List Noted) (n : Noted) where
             go (inl o) (inr c) d = inr (inl c)
             go (inl o) (inl c) (inr d) = inr (inr d)
             go (inl o) (inl c) (inl d) = inl (o, c, d)
+
+-- the edges after a last action are the old ones and the new ones
+pub edge_last_iff : (view : List Noted) (n : Noted) (t : Txn) → acts_by t n.entry ≡ true → All (λ m. m.at < n.at) view → has_aborted view t ≡ false → (u v : Txn) → Edge (view ++ n ∷ []) u v ↔ (Edge view u v ⊎ ((v ≡ t) × NewEdge view n t u))
+edge_last_iff view n t acts last goes_on u v = (
+  edge_last view n t acts last u v,
+  λ e. ⊎_elim
+      (λ (o : Edge view u v). edge_stays view n (λ w. no_abort n.entry t w acts) u v o)
+      (λ (w : (v ≡ t) × NewEdge view n t u). subst (λ z. Edge (view ++ n ∷ []) u z) (sym w.0) (edge_new view n t acts last goes_on u w.1)) e,
+)

@@ -11,3 +11,5 @@ pub mod Push
 pub mod Reach
 pub mod Sources
 pub mod Txns
+pub mod ViewsOf
+pub mod Waits
