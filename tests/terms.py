@@ -30,6 +30,12 @@ use Rattle.raid_base.specs.declared.verdict.Structure.TheVariants as structures
 use Rattle.raid_base.specs.declared.report.Report.{Report}
 use Rattle.raid_program.specs.declared.program.Term.TheVariants as terms
 use Rattle.raid_workload.specs.declared.workload.Workload.{Workload}
+use Rattle.raid_workload.specs.declared.workload.ItemLine.{ItemLine}
+use Rattle.raid_workload.specs.declared.workload.Switch.{Switch}
+use Rattle.raid_workload.specs.declared.workload.Event.{Event}
+use Rattle.raid_workload.specs.declared.workload.Homed.{Homed}
+use Rattle.raid_workload.specs.Name.{is_name}
+use Rattle.raid_workload.specs.Rules.{is_workload}
 use Rattle.raid_rules.specs.History.{noted}
 use Rattle.raid_legal.specs.Legal.{Legal, Allowed}
 use Rattle.raid_legal.specs.Serial.{Serial, Copies}
@@ -168,15 +174,23 @@ def item_line(line):
 
 
 def workload(w):
-    switches = [f"switch kinds.{KINDS[s.kind]} methods.{METHODS[s.method]} {s.trigger}" for s in w.switches]
-    events = [f"{'stops' if e.stop else 'returns'} {site(e.site)} {e.trigger}" for e in w.events]
-    programs = [f"home_at {site(h.home)} {listed([statement(s) for s in h.program])}" for h in w.programs]
-    structure = "Native" if w.structure == "native" else "GenericState"
-    fields = dict(version=w.version, restarts=w.restarts, sites=w.sites, together=w.together,
-                  items=stacked([item_line(line) for line in w.items]), kind="kinds." + KINDS[w.kind],
-                  structure="structures." + structure, switches=listed(switches), events=listed(events),
-                  programs=stacked(programs), kept="refl")
-    return "record {\n" + "".join(f"  {k} = {v};\n".replace("= \n", "=\n") for k, v in fields.items()) + "}"
+    """The definitions of the workload `w`: its longer parts, that it keeps the rules, and the record."""
+    parts = dict(
+        items=("ItemLine", [item_line(line) for line in w.items]),
+        switches=("Switch", [f"switch kinds.{KINDS[s.kind]} methods.{METHODS[s.method]} {s.trigger}" for s in w.switches]),
+        events=("Event", [f"{'stops' if e.stop else 'returns'} {site(e.site)} {e.trigger}" for e in w.events]),
+        programs=("Homed", [f"home_at {site(h.home)} {listed([statement(s) for s in h.program])}" for h in w.programs]))
+    out = ""
+    for part, (sort, lines) in parts.items():
+        if lines:
+            out += f"\nabbrev {part} : List {sort}\n{part} ={stacked(lines)}\n"
+    fields = dict(version=w.version, restarts=w.restarts, sites=w.sites, together=w.together, items="items",
+                  kind="kinds." + KINDS[w.kind], structure="structures." + ("Native" if w.structure == "native" else "GenericState"),
+                  switches="switches", events="events", programs="programs")
+    fields = {k: "[]" if k in parts and not parts[k][1] else v for k, v in fields.items()}
+    out += f"\n-- it keeps the rules\nkept : is_workload {' '.join(str(v) for v in fields.values())} ≡ true\nunfolding is_name\nkept = refl\n"
+    lines = "".join(f"  {k} = {v};\n" for k, v in dict(fields, kept="kept").items())
+    return out + f"\nabbrev w : Workload\nw = record {{\n{lines}}}\n"
 
 
 def report(r):

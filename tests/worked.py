@@ -172,7 +172,7 @@ def legal_example(module, folder):
     shows, make = LEGAL_EXAMPLES[module]
     w, r = make()
     facts = FACTS.get(module, [])
-    out = f"\n-- what was run\nabbrev w : Workload\nw = {workload(w)}\n"
+    out = "\n-- what was run" + workload(w)
     out += f"\n-- what is told of it\nabbrev told : Report\ntold = {report(r)}\n"
     if facts:
         out += "\n-- the first entries\nabbrev before : ℕ → List Noted\nbefore k = noted (take k told.entries)\n"
@@ -213,7 +213,7 @@ def letters_heard(letters, **options):
 def heard(shows, *args, **options):
     """An example of letters to the sequencer: its history after them, and what each sends."""
     w, log, es = letters_heard(*args, **options)
-    out = f"\n-- what is run\nabbrev w : Workload\nw = {workload(w)}\n"
+    out = "\n-- what is run" + workload(w)
     lines = [f"({sender}, {letter(l)})" for sender, l, _ in log]
     out += f"\n-- what the sequencer hears: the sender's server number, and the letter\nabbrev heard : List (ℕ × Letter)\nheard ={stacked(lines)}\n"
     out += ("\n-- the sequencer after so many letters\nabbrev after : ℕ → Sequencer\n"
@@ -233,7 +233,7 @@ def run_of(shows, w, schedule):
     world = raid_world.World(w)
     for p in schedule:
         assert world.pick(p)
-    out = f"\n-- what is run\nabbrev w : Workload\nw = {workload(w)}\n"
+    out = "\n-- what is run" + workload(w)
     picks = listed([f"takes {a} {b}" for a, b in schedule])
     out += f"\n-- who takes a letter from whom\nabbrev schedule : List Pick\nschedule = {picks}\n"
     out += f"\n-- what is told at the end\nabbrev told : Report\ntold = {report(world.report())}\n"

@@ -7,6 +7,10 @@ use Rattle.raid_base.specs.declared.verdict.Kind.TheVariants as kinds
 use Rattle.raid_base.specs.declared.verdict.Structure.TheVariants as structures
 use Rattle.raid_base.specs.declared.report.Report.{Report}
 use Rattle.raid_workload.specs.declared.workload.Workload.{Workload}
+use Rattle.raid_workload.specs.declared.workload.ItemLine.{ItemLine}
+use Rattle.raid_workload.specs.declared.workload.Homed.{Homed}
+use Rattle.raid_workload.specs.Name.{is_name}
+use Rattle.raid_workload.specs.Rules.{is_workload}
 use Rattle.raid_rules.specs.History.{noted}
 use Rattle.raid_legal.specs.Legal.{Legal}
 use Rattle.raid_legal.specs.Serial.{Serial, Copies}
@@ -18,26 +22,37 @@ use Rattle.raid_legal.specs.Answers.{closes_waits}
 use Rattle.raid_legal.specs.Forced.{woken}
 
 -- what was run
+abbrev items : List ItemLine
+items =
+    item_line (120 ∷ []) (pos 0) (s1 ∷ []) ∷
+    item_line (121 ∷ []) (pos 0) (s1 ∷ []) ∷
+    item_line (122 ∷ []) (pos 0) (s1 ∷ []) ∷
+    []
+
+abbrev programs : List Homed
+programs =
+    home_at s1 (load x 0 ∷ store x (number (pos 1)) ∷ []) ∷
+    home_at s1 (load x 0 ∷ store x (number (pos 2)) ∷ []) ∷
+    []
+
+-- it keeps the rules
+kept : is_workload 1 0 1 3 items kinds.Lock structures.Native [] [] programs ≡ true
+unfolding is_name
+kept = refl
+
 abbrev w : Workload
 w = record {
   version = 1;
   restarts = 0;
   sites = 1;
   together = 3;
-  items =
-      item_line (120 ∷ []) (pos 0) (s1 ∷ []) ∷
-      item_line (121 ∷ []) (pos 0) (s1 ∷ []) ∷
-      item_line (122 ∷ []) (pos 0) (s1 ∷ []) ∷
-      [];
+  items = items;
   kind = kinds.Lock;
   structure = structures.Native;
   switches = [];
   events = [];
-  programs =
-      home_at s1 (load x 0 ∷ store x (number (pos 1)) ∷ []) ∷
-      home_at s1 (load x 0 ∷ store x (number (pos 2)) ∷ []) ∷
-      [];
-  kept = refl;
+  programs = programs;
+  kept = kept;
 }
 
 -- what is told of it

@@ -165,6 +165,7 @@ kept_passes f g (x ∷ xs) y e = passes_step (kept_passes f g xs y) (g x) refl e
   first_step : (find f (filter g xs) ≡ Some y → g y ≡ true) → g x ≡ true → (c : Bool) → (if c then Some x else find f (filter g xs)) ≡ Some y → g y ≡ true
   first_step rest q true e = subst (λ z. g z ≡ true) (some_is _ _ e) q
   first_step rest q false e = rest e
+
   passes_step : (find f (filter g xs) ≡ Some y → g y ≡ true) → (b : Bool) → g x ≡ b → find f (if b then x ∷ filter g xs else filter g xs) ≡ Some y → g y ≡ true
   passes_step rest true q e = first_step rest q (f x) e
   passes_step rest false q e = rest e
@@ -267,6 +268,7 @@ begin_known w p (Begin u s) t a q = subst (λ v. has_txn (txns w) v ≡ true) (s
   first_part : (a b c d : Bool) → (a && b && c && d) ≡ true → a ≡ true
   first_part true b c d q = refl
   first_part false b c d q = absurd (true≢false (sym q))
+
   known_step : (o : Option Entry) → forced w p ≡ o → Comes w p (Begin u s) o → has_txn (txns w) u ≡ true
   known_step None here c = first_part (has_txn (txns w) u) (not (has_begun p u)) (is_up w p (home w u)) (option_map_or (is_txn u) (next_of w p (home w u)) false || again w p u) c.1
   known_step (Some must) here c = absurd (subst (Compels w p) (sym c) (forced_compels w p must here))
@@ -278,10 +280,10 @@ begun_known w before [] l h t q = h t (subst (λ p. has_begun p t ≡ true) (app
 begun_known w before (n ∷ ns) l h t q =
     begun_known w (before ++ n ∷ []) ns l.1 (λ u here. either u (has_begun before u) (is_begin_of u n.entry) refl refl (sym (has_begun_push before n u) ∙ here)) t
     (subst (λ p. has_begun p t ≡ true) (sym (append_assoc before (n ∷ []) ns)) q) where
-  either : (u : Txn) (a b : Bool) → has_begun before u ≡ a → is_begin_of u n.entry ≡ b → (has_begun before u || is_begin_of u n.entry) ≡ true → has_txn (txns w) u ≡ true
-  either u true b here begins q = h u here
-  either u false true here begins q = begin_known w before n.entry u l.0 begins
-  either u false false here begins q = absurd (true≢false (sym q ∙ ap (λ c. c || is_begin_of u n.entry) here ∙ begins))
+      either : (u : Txn) (a b : Bool) → has_begun before u ≡ a → is_begin_of u n.entry ≡ b → (has_begun before u || is_begin_of u n.entry) ≡ true → has_txn (txns w) u ≡ true
+      either u true b here begins q = h u here
+      either u false true here begins q = begin_known w before n.entry u l.0 begins
+      either u false false here begins q = absurd (true≢false (sym q ∙ ap (λ c. c || is_begin_of u n.entry) here ∙ begins))
 
 pub legal_known : (w : Workload) (h : List Entry) → Legal w h → Known w (noted h)
 legal_known w h l t runs = begun_known w [] (noted h) l (λ u q. absurd (true≢false (sym q))) t (started (has_begun (noted h) t) (not (has_ended (noted h) t)) runs) where

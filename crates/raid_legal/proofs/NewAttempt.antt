@@ -8,6 +8,10 @@ use Rattle.raid_base.specs.declared.verdict.Structure.TheVariants as structures
 use Rattle.raid_base.specs.declared.report.Report.{Report}
 use Rattle.raid_program.specs.declared.program.Term.TheVariants as terms
 use Rattle.raid_workload.specs.declared.workload.Workload.{Workload}
+use Rattle.raid_workload.specs.declared.workload.ItemLine.{ItemLine}
+use Rattle.raid_workload.specs.declared.workload.Homed.{Homed}
+use Rattle.raid_workload.specs.Name.{is_name}
+use Rattle.raid_workload.specs.Rules.{is_workload}
 use Rattle.raid_rules.specs.History.{noted}
 use Rattle.raid_legal.specs.Legal.{Legal}
 use Rattle.raid_legal.specs.Serial.{Serial, Copies}
@@ -18,26 +22,37 @@ use Rattle.raid_base.specs.declared.entry.Noted.{Noted}
 use Rattle.raid_legal.specs.Seen.{again}
 
 -- what was run
+abbrev items : List ItemLine
+items =
+    item_line (120 ∷ []) (pos 0) (s1 ∷ []) ∷
+    item_line (121 ∷ []) (pos 0) (s1 ∷ []) ∷
+    item_line (122 ∷ []) (pos 0) (s1 ∷ []) ∷
+    []
+
+abbrev programs : List Homed
+programs =
+    home_at s1 (load x 0 ∷ store y (sum (terms.Reg 0) ((true, (terms.Value (pos 1))) ∷ [])) ∷ []) ∷
+    home_at s1 (store x (number (pos 5)) ∷ []) ∷
+    []
+
+-- it keeps the rules
+kept : is_workload 2 1 1 3 items kinds.Valid structures.Native [] [] programs ≡ true
+unfolding is_name
+kept = refl
+
 abbrev w : Workload
 w = record {
   version = 2;
   restarts = 1;
   sites = 1;
   together = 3;
-  items =
-      item_line (120 ∷ []) (pos 0) (s1 ∷ []) ∷
-      item_line (121 ∷ []) (pos 0) (s1 ∷ []) ∷
-      item_line (122 ∷ []) (pos 0) (s1 ∷ []) ∷
-      [];
+  items = items;
   kind = kinds.Valid;
   structure = structures.Native;
   switches = [];
   events = [];
-  programs =
-      home_at s1 (load x 0 ∷ store y (sum (terms.Reg 0) ((true, (terms.Value (pos 1))) ∷ [])) ∷ []) ∷
-      home_at s1 (store x (number (pos 5)) ∷ []) ∷
-      [];
-  kept = refl;
+  programs = programs;
+  kept = kept;
 }
 
 -- what is told of it

@@ -6,29 +6,44 @@ use Rattle.raid_base.specs.declared.verdict.Structure.TheVariants as structures
 use Rattle.raid_base.specs.declared.report.Report.{Report}
 use Rattle.raid_program.specs.declared.program.Term.TheVariants as terms
 use Rattle.raid_workload.specs.declared.workload.Workload.{Workload}
+use Rattle.raid_workload.specs.declared.workload.ItemLine.{ItemLine}
+use Rattle.raid_workload.specs.declared.workload.Homed.{Homed}
+use Rattle.raid_workload.specs.Name.{is_name}
+use Rattle.raid_workload.specs.Rules.{is_workload}
 use Rattle.raid_legal.proofs.Scene.{t1, x, s1, request, item_line, home_at, sum, load, store, copy_line}
 use Rattle.raid_message.specs.declared.letter.Pick.{Pick}
 use Rattle.raid_steps.specs.World.{run, report, is_schedule, is_idle}
-use Rattle.raid_steps.proofs.Mail.{letter, takes, step}
+use Rattle.raid_steps.proofs.Mail.{takes, step}
 
 -- what is run
+abbrev items : List ItemLine
+items =
+    item_line (120 ∷ []) (pos 100) (s1 ∷ []) ∷
+    []
+
+abbrev programs : List Homed
+programs =
+    home_at s1 (load x 0 ∷ store x (sum (terms.Reg 0) ((true, (terms.Value (pos 5))) ∷ [])) ∷ []) ∷
+    []
+
+-- it keeps the rules
+kept : is_workload 1 0 1 1 items kinds.Lock structures.Native [] [] programs ≡ true
+unfolding is_name
+kept = refl
+
 abbrev w : Workload
 w = record {
   version = 1;
   restarts = 0;
   sites = 1;
   together = 1;
-  items =
-      item_line (120 ∷ []) (pos 100) (s1 ∷ []) ∷
-      [];
+  items = items;
   kind = kinds.Lock;
   structure = structures.Native;
   switches = [];
   events = [];
-  programs =
-      home_at s1 (load x 0 ∷ store x (sum (terms.Reg 0) ((true, (terms.Value (pos 5))) ∷ [])) ∷ []) ∷
-      [];
-  kept = refl;
+  programs = programs;
+  kept = kept;
 }
 
 -- who takes a letter from whom

@@ -1,40 +1,55 @@
 -- A site stops and returns, and its Hello comes before the Down is announced: the late Down gives nothing.
-use Rattle.std.specs.Prelude.{◌≡◌, ℕ, pos, false, List, [], ◌∷◌, take, slice_get, fold, refl}
+use Rattle.std.specs.Prelude.{◌≡◌, ℕ, pos, true, false, List, [], ◌∷◌, take, slice_get, fold, refl}
 use Rattle.raid_base.specs.declared.entry.Entry.TheVariants.{Begin, Abort, Down, Up}
 use Rattle.raid_base.specs.declared.entry.Act.TheVariants as acts
 use Rattle.raid_base.specs.declared.entry.Cause.TheVariants as causes
 use Rattle.raid_base.specs.declared.verdict.Kind.TheVariants as kinds
 use Rattle.raid_base.specs.declared.verdict.Structure.TheVariants as structures
 use Rattle.raid_workload.specs.declared.workload.Workload.{Workload}
-use Rattle.raid_legal.proofs.Scene.{t1, s1, s2, item_line, home_at, number}
+use Rattle.raid_workload.specs.declared.workload.ItemLine.{ItemLine}
+use Rattle.raid_workload.specs.declared.workload.Homed.{Homed}
+use Rattle.raid_workload.specs.Name.{is_name}
+use Rattle.raid_workload.specs.Rules.{is_workload}
+use Rattle.raid_legal.proofs.Scene.{t1, s1, s2, item_line, home_at}
 use Rattle.std.specs.Option.{option_map_or}
 use Rattle.raid_message.specs.declared.letter.Letter.{Letter}
 use Rattle.raid_message.specs.declared.letter.Message.TheVariants as letters
 use Rattle.raid_steps.specs.State.{Out, Sequencer}
 use Rattle.raid_steps.specs.Sequencer.{hear_sequencer}
-use Rattle.raid_steps.specs.World.{run, first_servers}
+use Rattle.raid_steps.specs.World.{first_servers}
 use Rattle.raid_steps.proofs.Mail.{letter}
 
 -- what is run
+abbrev items : List ItemLine
+items =
+    item_line (120 ∷ []) (pos 0) (s1 ∷ s2 ∷ []) ∷
+    item_line (121 ∷ []) (pos 0) (s1 ∷ s2 ∷ []) ∷
+    item_line (122 ∷ []) (pos 0) (s1 ∷ s2 ∷ []) ∷
+    []
+
+abbrev programs : List Homed
+programs =
+    home_at s2 [] ∷
+    []
+
+-- it keeps the rules
+kept : is_workload 1 0 2 3 items kinds.Lock structures.Native [] [] programs ≡ true
+unfolding is_name
+kept = refl
+
 abbrev w : Workload
 w = record {
   version = 1;
   restarts = 0;
   sites = 2;
   together = 3;
-  items =
-      item_line (120 ∷ []) (pos 0) (s1 ∷ s2 ∷ []) ∷
-      item_line (121 ∷ []) (pos 0) (s1 ∷ s2 ∷ []) ∷
-      item_line (122 ∷ []) (pos 0) (s1 ∷ s2 ∷ []) ∷
-      [];
+  items = items;
   kind = kinds.Lock;
   structure = structures.Native;
   switches = [];
   events = [];
-  programs =
-      home_at s2 [] ∷
-      [];
-  kept = refl;
+  programs = programs;
+  kept = kept;
 }
 
 -- what the sequencer hears: the sender's server number, and the letter

@@ -6,6 +6,7 @@ mod FirstRun
 mod LateDown
 pub mod Links
 pub mod Mail
+pub mod Parts
 pub mod Settle
 mod StaleCommit
 mod StopInRun
