@@ -34,8 +34,6 @@ use Rattle.raid_workload.specs.declared.workload.ItemLine.{ItemLine}
 use Rattle.raid_workload.specs.declared.workload.Switch.{Switch}
 use Rattle.raid_workload.specs.declared.workload.Event.{Event}
 use Rattle.raid_workload.specs.declared.workload.Homed.{Homed}
-use Rattle.raid_workload.specs.Name.{is_name}
-use Rattle.raid_workload.specs.Rules.{is_workload}
 use Rattle.raid_rules.specs.History.{noted}
 use Rattle.raid_legal.specs.Legal.{Legal, Allowed}
 use Rattle.raid_legal.specs.Serial.{Serial, Copies}
@@ -174,7 +172,7 @@ def item_line(line):
 
 
 def workload(w):
-    """The definitions of the workload `w`: its longer parts, that it keeps the rules, and the record."""
+    """The definitions of the workload `w`: its longer parts, and the record, which keeps the rules by computation."""
     parts = dict(
         items=("ItemLine", [item_line(line) for line in w.items]),
         switches=("Switch", [f"switch kinds.{KINDS[s.kind]} methods.{METHODS[s.method]} {s.trigger}" for s in w.switches]),
@@ -188,8 +186,7 @@ def workload(w):
                   kind="kinds." + KINDS[w.kind], structure="structures." + ("Native" if w.structure == "native" else "GenericState"),
                   switches="switches", events="events", programs="programs")
     fields = {k: "[]" if k in parts and not parts[k][1] else v for k, v in fields.items()}
-    out += f"\n-- it keeps the rules\nkept : is_workload {' '.join(str(v) for v in fields.values())} ≡ true\nunfolding is_name\nkept = refl\n"
-    lines = "".join(f"  {k} = {v};\n" for k, v in dict(fields, kept="kept").items())
+    lines = "".join(f"  {k} = {v};\n" for k, v in dict(fields, kept="refl").items())
     return out + f"\nabbrev w : Workload\nw = record {{\n{lines}}}\n"
 
 

@@ -1,5 +1,5 @@
 -- A suffix-sufficient switch: a commit that the old controller alone would grant is refused by the new one; the switch ends with the last old transaction.
-use Rattle.std.specs.Prelude.{◌≡◌, ℕ, pos, true, List, [], ◌∷◌, take, refl}
+use Rattle.std.specs.Prelude.{◌≡◌, ℕ, pos, List, [], ◌∷◌, take, refl}
 use Rattle.raid_base.specs.declared.entry.Entry.TheVariants.{Begin, Read, Commit, Abort, Ack, SwitchOn, SwitchEnd}
 use Rattle.raid_base.specs.declared.entry.Act.TheVariants as acts
 use Rattle.raid_base.specs.declared.entry.Cause.TheVariants as causes
@@ -11,8 +11,6 @@ use Rattle.raid_workload.specs.declared.workload.Workload.{Workload}
 use Rattle.raid_workload.specs.declared.workload.ItemLine.{ItemLine}
 use Rattle.raid_workload.specs.declared.workload.Switch.{Switch}
 use Rattle.raid_workload.specs.declared.workload.Homed.{Homed}
-use Rattle.raid_workload.specs.Name.{is_name}
-use Rattle.raid_workload.specs.Rules.{is_workload}
 use Rattle.raid_rules.specs.History.{noted}
 use Rattle.raid_legal.specs.Legal.{Legal}
 use Rattle.raid_legal.specs.Serial.{Serial, Copies}
@@ -45,11 +43,6 @@ programs =
     home_at s1 (store z (number (pos 1)) ∷ []) ∷
     []
 
--- it keeps the rules
-kept : is_workload 1 0 1 3 items kinds.Valid structures.Native switches [] programs ≡ true
-unfolding is_name
-kept = refl
-
 abbrev w : Workload
 w = record {
   version = 1;
@@ -62,7 +55,7 @@ w = record {
   switches = switches;
   events = [];
   programs = programs;
-  kept = kept;
+  kept = refl;
 }
 
 -- what is told of it

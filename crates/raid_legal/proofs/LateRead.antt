@@ -1,5 +1,5 @@
 -- Timestamps: a read comes after a younger transaction wrote the item, and is refused.
-use Rattle.std.specs.Prelude.{◌≡◌, ℕ, pos, true, List, [], ◌∷◌, take, refl}
+use Rattle.std.specs.Prelude.{◌≡◌, ℕ, pos, List, [], ◌∷◌, take, refl}
 use Rattle.raid_base.specs.declared.entry.Entry.TheVariants.{Begin, Commit, Abort, Ack}
 use Rattle.raid_base.specs.declared.entry.Act.TheVariants as acts
 use Rattle.raid_base.specs.declared.entry.Cause.TheVariants as causes
@@ -9,8 +9,6 @@ use Rattle.raid_base.specs.declared.report.Report.{Report}
 use Rattle.raid_workload.specs.declared.workload.Workload.{Workload}
 use Rattle.raid_workload.specs.declared.workload.ItemLine.{ItemLine}
 use Rattle.raid_workload.specs.declared.workload.Homed.{Homed}
-use Rattle.raid_workload.specs.Name.{is_name}
-use Rattle.raid_workload.specs.Rules.{is_workload}
 use Rattle.raid_rules.specs.History.{noted}
 use Rattle.raid_legal.specs.Legal.{Legal}
 use Rattle.raid_legal.specs.Serial.{Serial, Copies}
@@ -37,11 +35,6 @@ programs =
     home_at s1 (store x (number (pos 5)) ∷ []) ∷
     []
 
--- it keeps the rules
-kept : is_workload 1 0 1 3 items kinds.Stamp structures.Native [] [] programs ≡ true
-unfolding is_name
-kept = refl
-
 abbrev w : Workload
 w = record {
   version = 1;
@@ -54,7 +47,7 @@ w = record {
   switches = [];
   events = [];
   programs = programs;
-  kept = kept;
+  kept = refl;
 }
 
 -- what is told of it

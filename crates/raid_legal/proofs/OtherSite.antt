@@ -1,5 +1,5 @@
 -- A transaction reads and writes an item that only another site holds.
-use Rattle.std.specs.Prelude.{◌≡◌, pos, true, List, [], ◌∷◌, refl}
+use Rattle.std.specs.Prelude.{pos, true, List, [], ◌∷◌, refl}
 use Rattle.raid_base.specs.declared.entry.Entry.TheVariants.{Begin, Read, Commit, Ack}
 use Rattle.raid_base.specs.declared.verdict.Kind.TheVariants as kinds
 use Rattle.raid_base.specs.declared.verdict.Structure.TheVariants as structures
@@ -8,8 +8,6 @@ use Rattle.raid_program.specs.declared.program.Term.TheVariants as terms
 use Rattle.raid_workload.specs.declared.workload.Workload.{Workload}
 use Rattle.raid_workload.specs.declared.workload.ItemLine.{ItemLine}
 use Rattle.raid_workload.specs.declared.workload.Homed.{Homed}
-use Rattle.raid_workload.specs.Name.{is_name}
-use Rattle.raid_workload.specs.Rules.{is_workload}
 use Rattle.raid_legal.specs.Legal.{Legal}
 use Rattle.raid_legal.specs.Serial.{Serial, Copies}
 use Rattle.raid_legal.specs.Switched.{Switched, Finished}
@@ -27,11 +25,6 @@ programs =
     home_at s1 (load x 0 ∷ store x (sum (terms.Reg 0) ((true, (terms.Value (pos 1))) ∷ [])) ∷ []) ∷
     []
 
--- it keeps the rules
-kept : is_workload 1 0 2 1 items kinds.Lock structures.Native [] [] programs ≡ true
-unfolding is_name
-kept = refl
-
 abbrev w : Workload
 w = record {
   version = 1;
@@ -44,7 +37,7 @@ w = record {
   switches = [];
   events = [];
   programs = programs;
-  kept = kept;
+  kept = refl;
 }
 
 -- what is told of it

@@ -1,5 +1,5 @@
 -- A program stops itself: its transaction is aborted with what it had read.
-use Rattle.std.specs.Prelude.{◌≡◌, pos, true, List, [], ◌∷◌, refl}
+use Rattle.std.specs.Prelude.{pos, List, [], ◌∷◌, refl}
 use Rattle.raid_base.specs.declared.entry.Entry.TheVariants.{Begin, Read, Abort}
 use Rattle.raid_base.specs.declared.entry.Act.TheVariants as acts
 use Rattle.raid_base.specs.declared.entry.Cause.TheVariants as causes
@@ -10,8 +10,6 @@ use Rattle.raid_program.specs.declared.program.Term.TheVariants as terms
 use Rattle.raid_workload.specs.declared.workload.Workload.{Workload}
 use Rattle.raid_workload.specs.declared.workload.ItemLine.{ItemLine}
 use Rattle.raid_workload.specs.declared.workload.Homed.{Homed}
-use Rattle.raid_workload.specs.Name.{is_name}
-use Rattle.raid_workload.specs.Rules.{is_workload}
 use Rattle.raid_legal.specs.Legal.{Legal}
 use Rattle.raid_legal.specs.Serial.{Serial, Copies}
 use Rattle.raid_legal.specs.Switched.{Switched, Finished}
@@ -29,11 +27,6 @@ programs =
     home_at s1 (load x 0 ∷ stop_if (sum (terms.Reg 0) []) (number (pos 200)) ∷ []) ∷
     []
 
--- it keeps the rules
-kept : is_workload 1 0 1 1 items kinds.Lock structures.Native [] [] programs ≡ true
-unfolding is_name
-kept = refl
-
 abbrev w : Workload
 w = record {
   version = 1;
@@ -46,7 +39,7 @@ w = record {
   switches = [];
   events = [];
   programs = programs;
-  kept = kept;
+  kept = refl;
 }
 
 -- what is told of it

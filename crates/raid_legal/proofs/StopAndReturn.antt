@@ -8,8 +8,6 @@ use Rattle.raid_workload.specs.declared.workload.Workload.{Workload}
 use Rattle.raid_workload.specs.declared.workload.ItemLine.{ItemLine}
 use Rattle.raid_workload.specs.declared.workload.Event.{Event}
 use Rattle.raid_workload.specs.declared.workload.Homed.{Homed}
-use Rattle.raid_workload.specs.Name.{is_name}
-use Rattle.raid_workload.specs.Rules.{is_workload}
 use Rattle.raid_rules.specs.History.{noted}
 use Rattle.raid_legal.specs.Legal.{Legal}
 use Rattle.raid_legal.specs.Serial.{Serial, Copies}
@@ -37,11 +35,6 @@ programs =
     home_at s1 (load x 0 ∷ []) ∷
     []
 
--- it keeps the rules
-kept : is_workload 1 0 2 1 items kinds.Lock structures.Native [] events programs ≡ true
-unfolding is_name
-kept = refl
-
 abbrev w : Workload
 w = record {
   version = 1;
@@ -54,7 +47,7 @@ w = record {
   switches = [];
   events = events;
   programs = programs;
-  kept = kept;
+  kept = refl;
 }
 
 -- what is told of it

@@ -11,8 +11,6 @@ use Rattle.raid_workload.specs.declared.workload.Workload.{Workload}
 use Rattle.raid_workload.specs.declared.workload.ItemLine.{ItemLine}
 use Rattle.raid_workload.specs.declared.workload.Switch.{Switch}
 use Rattle.raid_workload.specs.declared.workload.Homed.{Homed}
-use Rattle.raid_workload.specs.Name.{is_name}
-use Rattle.raid_workload.specs.Rules.{is_workload}
 use Rattle.raid_rules.specs.History.{noted}
 use Rattle.raid_legal.specs.Legal.{Legal}
 use Rattle.raid_legal.specs.Serial.{Serial, Copies}
@@ -42,11 +40,6 @@ programs =
     home_at s1 (load x 0 ∷ store y (number (pos 2)) ∷ []) ∷
     []
 
--- it keeps the rules
-kept : is_workload 1 0 1 3 items kinds.Valid structures.Native switches [] programs ≡ true
-unfolding is_name
-kept = refl
-
 abbrev w : Workload
 w = record {
   version = 1;
@@ -59,7 +52,7 @@ w = record {
   switches = switches;
   events = [];
   programs = programs;
-  kept = kept;
+  kept = refl;
 }
 
 -- what is told of it

@@ -1,5 +1,5 @@
 -- Two sites that hold an item are down in turn. The one that missed the write gets a copy once the other is back.
-use Rattle.std.specs.Prelude.{◌≡◌, ℕ, pos, true, false, List, [], ◌∷◌, take, slice_get, fold, refl}
+use Rattle.std.specs.Prelude.{◌≡◌, ℕ, pos, false, List, [], ◌∷◌, take, slice_get, fold, refl}
 use Rattle.raid_base.specs.declared.entry.Entry.TheVariants.{Begin, Commit, Abort, Ack, Down, Up, Clear}
 use Rattle.raid_base.specs.declared.entry.Act.TheVariants as acts
 use Rattle.raid_base.specs.declared.entry.Cause.TheVariants as causes
@@ -8,8 +8,6 @@ use Rattle.raid_base.specs.declared.verdict.Structure.TheVariants as structures
 use Rattle.raid_workload.specs.declared.workload.Workload.{Workload}
 use Rattle.raid_workload.specs.declared.workload.ItemLine.{ItemLine}
 use Rattle.raid_workload.specs.declared.workload.Homed.{Homed}
-use Rattle.raid_workload.specs.Name.{is_name}
-use Rattle.raid_workload.specs.Rules.{is_workload}
 use Rattle.raid_legal.proofs.Scene.{t1, t2, x, s1, s2, s3, request, item_line, home_at}
 use Rattle.std.specs.Option.{option_map_or}
 use Rattle.raid_message.specs.declared.letter.Letter.{Letter}
@@ -33,11 +31,6 @@ programs =
     home_at s3 [] ∷
     []
 
--- it keeps the rules
-kept : is_workload 1 0 3 3 items kinds.Lock structures.Native [] [] programs ≡ true
-unfolding is_name
-kept = refl
-
 abbrev w : Workload
 w = record {
   version = 1;
@@ -50,7 +43,7 @@ w = record {
   switches = [];
   events = [];
   programs = programs;
-  kept = kept;
+  kept = refl;
 }
 
 -- what the sequencer hears: the sender's server number, and the letter

@@ -1,13 +1,11 @@
 -- A site stops twice before its Hello is heard: it comes up, and goes down again in the same step.
-use Rattle.std.specs.Prelude.{◌≡◌, ℕ, pos, true, List, [], ◌∷◌, take, slice_get, fold, refl}
+use Rattle.std.specs.Prelude.{◌≡◌, ℕ, pos, List, [], ◌∷◌, take, slice_get, fold, refl}
 use Rattle.raid_base.specs.declared.entry.Entry.TheVariants.{Down, Up}
 use Rattle.raid_base.specs.declared.verdict.Kind.TheVariants as kinds
 use Rattle.raid_base.specs.declared.verdict.Structure.TheVariants as structures
 use Rattle.raid_workload.specs.declared.workload.Workload.{Workload}
 use Rattle.raid_workload.specs.declared.workload.ItemLine.{ItemLine}
 use Rattle.raid_workload.specs.declared.workload.Homed.{Homed}
-use Rattle.raid_workload.specs.Name.{is_name}
-use Rattle.raid_workload.specs.Rules.{is_workload}
 use Rattle.raid_legal.proofs.Scene.{s1, s2, item_line, home_at}
 use Rattle.std.specs.Option.{option_map_or}
 use Rattle.raid_message.specs.declared.letter.Letter.{Letter}
@@ -30,11 +28,6 @@ programs =
     home_at s2 [] ∷
     []
 
--- it keeps the rules
-kept : is_workload 1 0 2 3 items kinds.Lock structures.Native [] [] programs ≡ true
-unfolding is_name
-kept = refl
-
 abbrev w : Workload
 w = record {
   version = 1;
@@ -47,7 +40,7 @@ w = record {
   switches = [];
   events = [];
   programs = programs;
-  kept = kept;
+  kept = refl;
 }
 
 -- what the sequencer hears: the sender's server number, and the letter

@@ -8,8 +8,6 @@ use Rattle.raid_workload.specs.declared.workload.Workload.{Workload}
 use Rattle.raid_workload.specs.declared.workload.ItemLine.{ItemLine}
 use Rattle.raid_workload.specs.declared.workload.Event.{Event}
 use Rattle.raid_workload.specs.declared.workload.Homed.{Homed}
-use Rattle.raid_workload.specs.Name.{is_name}
-use Rattle.raid_workload.specs.Rules.{is_workload}
 use Rattle.raid_legal.proofs.Scene.{t1, t2, x, s1, s2, request, item_line, stops, returns, home_at, number, load, store, copy_line}
 use Rattle.raid_message.specs.declared.letter.Pick.{Pick}
 use Rattle.raid_steps.specs.World.{run, report, is_schedule, is_idle}
@@ -33,11 +31,6 @@ programs =
     home_at s1 (load x 0 ∷ []) ∷
     []
 
--- it keeps the rules
-kept : is_workload 1 0 2 1 items kinds.Lock structures.Native [] events programs ≡ true
-unfolding is_name
-kept = refl
-
 abbrev w : Workload
 w = record {
   version = 1;
@@ -50,7 +43,7 @@ w = record {
   switches = [];
   events = events;
   programs = programs;
-  kept = kept;
+  kept = refl;
 }
 
 -- who takes a letter from whom
