@@ -1,3 +1,5 @@
+pub mod Addressed
+pub mod AddressedSite
 mod AttemptHeard
 mod CopierHeard
 mod DeadlockHeard
