@@ -1,6 +1,6 @@
 -- What the monitor and the sequencer send goes to whom the table of letters says, and so for every server.
-use Rattle.std.proofs.Common.{◌≡◌, ℕ, zero, suc, ◌+◌, ◌-◌, ◌*◌, ◌<◌, ◌==◌, nat_le, Bool, true, false, not, ◌&&◌, ◌||◌, List, [], ◌∷◌, ◌++◌, length, map, Option, Some, None, if◌then◌else◌, arith, sym, subst, ap, ◌∙◌, refl, ℤ}
-use Rattle.std.specs.Prelude.{filter, filter_map, flat_map, find, slice_get, nat_lt, option_map, take_while, drop}
+use Rattle.std.proofs.Common.{◌≡◌, ℕ, zero, suc, ◌+◌, ◌-◌, ◌*◌, ◌<◌, ◌==◌, nat_le, Bool, true, false, not, ◌&&◌, ◌||◌, List, [], ◌∷◌, ◌++◌, length, map, Option, Some, None, if◌then◌else◌, arith, sym, subst, ap, ◌∙◌, refl}
+use Rattle.std.specs.Prelude.{filter, filter_map, flat_map, slice_get, nat_lt, option_map, drop}
 use Rattle.std.specs.List.{list_any, list_all, cons_option, prefix_len}
 use Rattle.std.specs.Option.{option_map_or}
 use Rattle.std.proofs.lemmas.Bool.{true≢false, and_parts, and_from}
@@ -10,7 +10,7 @@ use Rattle.raid_base.specs.declared.names.Item.{Item}
 use Rattle.raid_base.specs.declared.names.Site.{Site}
 use Rattle.raid_base.specs.declared.request.Request.{Request}
 use Rattle.raid_base.specs.declared.entry.Entry.{Entry}
-use Rattle.raid_base.specs.declared.entry.Entry.TheVariants.{Begin, Read, Wait, Commit, Abort, Ack, SwitchOn, SwitchEnd, Down, Up, Clear}
+use Rattle.raid_base.specs.declared.entry.Entry.TheVariants.{Begin, Read, Wait, Commit, Abort, Ack, Down, Up, Clear}
 use Rattle.raid_base.specs.declared.entry.Act.TheVariants as acts
 use Rattle.raid_base.specs.declared.entry.Cause.{Cause}
 use Rattle.raid_base.specs.declared.entry.Cause.TheVariants as causes
@@ -25,22 +25,22 @@ use Rattle.raid_workload.specs.Parts.{txns, sites, items, placement, home}
 use Rattle.raid_rules.specs.History.{noted, ends, stamp, is_waiting, version}
 use Rattle.raid_rules.specs.Sessions.{holders, is_source, source_for, owes}
 use Rattle.raid_rules.specs.Verdicts.{reading, writing}
-use Rattle.raid_legal.specs.Seen.{vector, is_up, is_locked, sources, up_holders}
+use Rattle.raid_legal.specs.Seen.{vector, is_up, is_locked, sources}
 use Rattle.raid_legal.specs.InForce.{verdict}
-use Rattle.raid_legal.specs.Answers.{served, answer_read, answer_commit, answered, decided, closes_waits, site_refusal, cause_of}
+use Rattle.raid_legal.specs.Answers.{served, answer_read, answer_commit, answered, decided, closes_waits, site_refusal}
 use Rattle.raid_legal.specs.Forced.{forced}
 use Rattle.raid_legal.specs.Legal.{is_free, may_begin}
 use Rattle.raid_legal.proofs.Left.{Compels, forced_compels}
 use Rattle.raid_message.specs.declared.letter.Message.{Message}
 use Rattle.raid_message.specs.declared.letter.Message.TheVariants as letters
 use Rattle.raid_message.specs.declared.letter.Letter.{Letter}
-use Rattle.raid_steps.specs.State.{Out, Turn, with_state, opened, sending, send, tell, to_site, Copying, Sequencer, SiteState}
+use Rattle.raid_steps.specs.State.{Out, Turn, opened, tell, to_site, Copying, Sequencer, SiteState}
 use Rattle.raid_steps.specs.Fits.{knows_txn, knows_site, knows_item, is_to_sequencer}
 use Rattle.raid_steps.specs.Table.{may_monitor, may_sequencer, may_site, may_send, is_note}
-use Rattle.raid_steps.specs.Monitor.{due_events, event_out, monitor_row, hear_monitor}
+use Rattle.raid_steps.specs.Monitor.{due_events, event_out, monitor_row}
 use Rattle.raid_steps.specs.Sequencer as rows
 use Rattle.raid_steps.specs.World.{Servers, hear, hear_at}
-use Rattle.raid_steps.proofs.Parts.{all_filtered, all_appended, all_mapped, all_cut, all_dropped, all_found, all_got, sites_known, number_known, events_known, holders_known, home_known}
+use Rattle.raid_steps.proofs.Parts.{all_filtered, all_appended, all_cut, all_dropped, all_got, sites_known, number_known, events_known, holders_known, home_known}
 use Rattle.raid_steps.proofs.AddressedSite.{site_right}
 
 -- the monitor

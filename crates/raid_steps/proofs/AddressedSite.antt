@@ -1,6 +1,5 @@
 -- What a site sends goes to whom the table of letters says.
-use Rattle.std.proofs.Common.{◌≡◌, ℕ, zero, suc, ◌+◌, ◌<◌, ◌==◌, nat_le, Bool, true, false, not, ◌&&◌, ◌||◌, List, [], ◌∷◌, ◌++◌, length, ◌-◌, fold, map, Option, Some, None, if◌then◌else◌, arith, sym, subst, ap, ◌∙◌, refl, ℤ}
-use Rattle.std.specs.Prelude.{filter, nat_lt}
+use Rattle.std.proofs.Common.{◌≡◌, ℕ, zero, suc, ◌+◌, ◌<◌, ◌==◌, nat_le, Bool, true, false, not, ◌&&◌, List, [], ◌∷◌, length, ◌-◌, fold, map, Option, Some, None, if◌then◌else◌, arith, sym, subst, refl, ℤ}
 use Rattle.std.specs.List.{list_all}
 use Rattle.std.specs.Option.{option_map_or}
 use Rattle.std.proofs.lemmas.Bool.{true≢false, and_parts, and_from}
@@ -12,7 +11,7 @@ use Rattle.raid_base.specs.declared.entry.Cause.{Cause}
 use Rattle.raid_base.specs.declared.entry.Cause.TheVariants as causes
 use Rattle.raid_base.specs.declared.entry.Answer.{Answer}
 use Rattle.raid_base.specs.declared.entry.Answer.TheVariants.{Yes, No}
-use Rattle.raid_base.specs.Names.{is_txn, is_site, has_site}
+use Rattle.raid_base.specs.Names.{is_site}
 use Rattle.raid_base.specs.Find.{first_of}
 use Rattle.raid_base.specs.Sites.{session, site}
 use Rattle.raid_program.specs.declared.program.Want.{Want}
@@ -26,13 +25,13 @@ use Rattle.raid_legal.specs.Seen.{holds_some}
 use Rattle.raid_message.specs.declared.letter.Message.{Message}
 use Rattle.raid_message.specs.declared.letter.Message.TheVariants as letters
 use Rattle.raid_message.specs.declared.letter.Letter.{Letter}
-use Rattle.raid_steps.specs.State.{Out, Turn, with_state, opened, sending, send, tell, to_site, Copy, Phase, asking, preparing, sent, Running, SiteState}
-use Rattle.raid_steps.specs.Fits.{knows_txn, knows_site, knows_item, knows_vector, is_of_sequencer, is_of_site}
+use Rattle.raid_steps.specs.State.{Turn, with_state, opened, send, tell, to_site, Copy, Phase, asking, preparing, sent, Running, SiteState}
+use Rattle.raid_steps.specs.Fits.{knows_txn, knows_site, knows_item, is_of_sequencer, is_of_site}
 use Rattle.raid_steps.specs.Table.{may_site, is_request, is_exchange}
 use Rattle.raid_steps.specs.Copies.{copy_of, staged_of, apply, unstage, stage, set_copy}
-use Rattle.raid_steps.specs.Programs.{running_of, runs_here, with_running, change, ended, ask, end_by, held_by, prepare_out, voters, stage_own, prepare, turn_to, go_on, begin, following, begin_next, start, give_to, give, noted_at, with_vote, lose, join, ask_commit, ask_commits, next_attempt}
+use Rattle.raid_steps.specs.Programs.{running_of, runs_here, with_running, change, ended, ask, end_by, held_by, prepare_out, voters, prepare, turn_to, go_on, begin, following, begin_next, start, give_to, give, noted_at, with_vote, lose, join, ask_commit, ask_commits, next_attempt}
 use Rattle.raid_steps.specs.Site as rows
-use Rattle.raid_steps.proofs.Parts.{all_filtered, all_appended, all_mapped, sites_known, number_known}
+use Rattle.raid_steps.proofs.Parts.{all_filtered, all_appended, sites_known, number_known}
 
 module _ (w : Workload) where
   -- all that was sent goes where it may

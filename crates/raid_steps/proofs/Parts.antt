@@ -1,24 +1,23 @@
 -- What every workload has of sites: its sites, its holders, its homes and its events name sites that it has.
-use Rattle.std.proofs.Common.{◌≡◌, ℕ, zero, suc, ◌+◌, ◌-◌, ◌<◌, ◌≤◌, ◌==◌, nat_lt, nat_le, Bool, true, false, not, ◌&&◌, ◌||◌, List, [], ◌∷◌, ◌++◌, length, map, Option, Some, None, if◌then◌else◌, arith, sym, subst, ap, ◌∙◌, refl, ◌*◌, mod-lt}
+use Rattle.std.proofs.Common.{◌≡◌, ℕ, zero, suc, ◌+◌, ◌-◌, ◌<◌, ◌≤◌, nat_le, Bool, true, false, ◌&&◌, List, [], ◌∷◌, ◌++◌, length, map, Option, Some, None, if◌then◌else◌, arith, sym, subst, ◌∙◌, refl, ◌*◌, mod-lt}
 use Rattle.std.specs.Prelude.{filter, find, slice_get, slice_index_or, take, drop}
-use Rattle.std.specs.List.{list_any, list_all}
+use Rattle.std.specs.List.{list_all}
 use Rattle.std.specs.Option.{option_map_or}
 use Rattle.raid_base.specs.Names.{program_of}
-use Rattle.std.proofs.lemmas.Bool.{true≢false, and_parts, and_from}
+use Rattle.std.proofs.lemmas.Bool.{and_parts, and_from}
 use Rattle.std.proofs.lemmas.List.Folds.{list_all-append, list_all-map}
 use Rattle.std.proofs.lemmas.Grind.{common_steps}
 use Rattle.std.proofs.lemmas.Option.{slice_get-get_or}
 use Rattle.raid_base.specs.declared.names.Site.{Site}
 use Rattle.raid_base.specs.declared.names.Item.{Item}
 use Rattle.raid_base.specs.declared.names.Txn.{Txn}
-use Rattle.raid_base.specs.Names.{is_site, has_site}
 use Rattle.raid_base.specs.Sites.{site}
 use Rattle.raid_workload.specs.declared.workload.Workload.{Workload}
 use Rattle.raid_workload.specs.declared.workload.Event.{Event}
 use Rattle.raid_workload.specs.declared.workload.ItemLine.{ItemLine}
 use Rattle.raid_workload.specs.declared.workload.Homed.{Homed}
 use Rattle.raid_workload.specs.Parts.{count_from, sites, placement, home, homed}
-use Rattle.raid_workload.specs.Rules.{is_site_of, is_within, are_ascending, are_items, are_events, are_switches, is_homed, are_restarts}
+use Rattle.raid_workload.specs.Rules.{is_site_of, is_within, are_ascending, are_items, are_events, is_homed}
 use Rattle.raid_rules.specs.Sessions.{holders}
 use Rattle.raid_steps.specs.Fits.{knows_site, knows_txn}
 
