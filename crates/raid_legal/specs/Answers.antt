@@ -73,7 +73,8 @@ wait_edges w p rs = flat_map (λ r. map (λ q. (r.0, q.0)) (filter (λ q. blocks
 abbrev pub closes_waits : Workload → List Noted → Txn → Request → Bool
 closes_waits w p t request = leads (wait_edges w p (waiting p ++ (t, request) ∷ [])) t t
 
--- what becomes of a request that can't be granted yet: nothing new where it waits already; an abort where it would close a cycle of waits; else it waits
+-- what becomes of a request that can't be granted yet: nothing new where it waits already; an abort where it would close a cycle of
+-- waits; else it waits
 abbrev pub waits : Workload → List Noted → Txn → Request → Option Entry
 waits w p t request = if is_waiting p t then None else if closes_waits w p t request then Some (Abort t causes.Deadlock (acts.Commit request)) else Some (Wait t request)
 
