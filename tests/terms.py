@@ -40,7 +40,7 @@ use Rattle.raid_legal.specs.Serial.{Serial, Copies}
 use Rattle.raid_legal.specs.Switched.{Switched, Finished}
 use Rattle.raid_legal.specs.Sound.{Sound}
 use Rattle.raid_legal.proofs.Scene.{◌also◌, txn, item, site, t1, t2, t3, t4, x, y, z, s1, s2, s3, request, item_line, switch, stops, returns, home_at, sum, number, load, store, stop_if, copy_line}
-use Rattle.raid_legal.proofs.Apart.{apart, untrue, site_code, count_code, pairs_code, entry_code, answer_code, want_code}
+use Rattle.raid_legal.proofs.Apart.{apart, untrue, site_code, count_code, pairs_code, txns_code, entry_code, answer_code, want_code}
 """
 
 

@@ -12,11 +12,12 @@ use Rattle.raid_workload.specs.declared.workload.ItemLine.{ItemLine}
 use Rattle.raid_workload.specs.declared.workload.Switch.{Switch}
 use Rattle.raid_workload.specs.declared.workload.Homed.{Homed}
 use Rattle.raid_rules.specs.History.{noted}
-use Rattle.raid_legal.specs.Legal.{Legal}
+use Rattle.raid_legal.specs.Legal.{Legal, Allowed}
 use Rattle.raid_legal.specs.Serial.{Serial, Copies}
 use Rattle.raid_legal.specs.Switched.{Switched, Finished}
 use Rattle.raid_legal.specs.Sound.{Sound}
 use Rattle.raid_legal.proofs.Scene.{◌also◌, t1, t2, t3, x, y, z, s1, request, item_line, switch, home_at, number, load, store, copy_line}
+use Rattle.raid_legal.proofs.Apart.{apart, answer_code}
 use Rattle.raid_base.specs.declared.entry.Noted.{Noted}
 use Rattle.raid_base.specs.declared.verdict.Refusal.TheVariants as refusals
 use Rattle.raid_base.specs.declared.verdict.Verdict.TheVariants as verdicts
@@ -89,6 +90,10 @@ old = refl
 -- the two together don't
 both : verdict w (before 6) (writing t1 1 ((x, pos 1) ∷ [])) ≡ verdicts.Reject refusals.Late
 both = refl
+
+-- so it may not come
+not_by_one : Allowed w (before 6) (Commit t1 (request [] ((x, pos 1) ∷ []) (1 ∷ [])) (s1 ∷ [])) → ⊥
+not_by_one = λ q. apart answer_code _ _ refl q.1
 
 -- its history is legal
 legal : Legal w told.entries

@@ -12,11 +12,12 @@ use Rattle.raid_workload.specs.declared.workload.ItemLine.{ItemLine}
 use Rattle.raid_workload.specs.declared.workload.Switch.{Switch}
 use Rattle.raid_workload.specs.declared.workload.Homed.{Homed}
 use Rattle.raid_rules.specs.History.{noted}
-use Rattle.raid_legal.specs.Legal.{Legal}
+use Rattle.raid_legal.specs.Legal.{Legal, Allowed}
 use Rattle.raid_legal.specs.Serial.{Serial, Copies}
 use Rattle.raid_legal.specs.Switched.{Switched, Finished}
 use Rattle.raid_legal.specs.Sound.{Sound}
 use Rattle.raid_legal.proofs.Scene.{◌also◌, t1, t2, x, y, z, s1, request, item_line, switch, home_at, number, load, store, copy_line}
+use Rattle.raid_legal.proofs.Apart.{apart, entry_code}
 use Rattle.raid_base.specs.declared.entry.Noted.{Noted}
 use Rattle.raid_legal.specs.InForce.{off_list}
 
@@ -78,6 +79,10 @@ before k = noted (take k told.entries)
 -- the switch aborts the reader
 first : off_list w (before 4) methods.Convert kinds.Lock ≡ t1 ∷ []
 first = refl
+
+-- nothing may come before its abort
+nothing_before : Allowed w (before 5) (Ack t2 s1) → ⊥
+nothing_before = λ q. apart entry_code _ _ refl q
 
 -- its history is legal
 legal : Legal w told.entries

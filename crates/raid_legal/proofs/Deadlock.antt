@@ -10,11 +10,12 @@ use Rattle.raid_workload.specs.declared.workload.Workload.{Workload}
 use Rattle.raid_workload.specs.declared.workload.ItemLine.{ItemLine}
 use Rattle.raid_workload.specs.declared.workload.Homed.{Homed}
 use Rattle.raid_rules.specs.History.{noted}
-use Rattle.raid_legal.specs.Legal.{Legal}
+use Rattle.raid_legal.specs.Legal.{Legal, Allowed}
 use Rattle.raid_legal.specs.Serial.{Serial, Copies}
 use Rattle.raid_legal.specs.Switched.{Switched, Finished}
 use Rattle.raid_legal.specs.Sound.{Sound}
 use Rattle.raid_legal.proofs.Scene.{◌also◌, t1, t2, x, y, z, s1, request, item_line, home_at, number, load, store, copy_line}
+use Rattle.raid_legal.proofs.Apart.{untrue}
 use Rattle.raid_base.specs.declared.entry.Noted.{Noted}
 use Rattle.raid_legal.specs.Answers.{closes_waits}
 use Rattle.raid_legal.specs.Forced.{woken}
@@ -77,6 +78,10 @@ closes = refl
 -- once it is gone the first must be answered
 woken_first : woken w (before 6) ≡ Some (Commit t1 (request ((x, pos 0) ∷ []) ((x, pos 1) ∷ []) (1 ∷ [])) (s1 ∷ []))
 woken_first = refl
+
+-- the first may not be aborted in its place
+not_the_first : Allowed w (before 5) (Abort t1 causes.Deadlock (acts.Commit (request ((x, pos 0) ∷ []) ((x, pos 1) ∷ []) (1 ∷ [])))) → ⊥
+not_the_first = λ q. untrue q.0
 
 -- its history is legal
 legal : Legal w told.entries

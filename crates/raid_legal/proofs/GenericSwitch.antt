@@ -12,7 +12,7 @@ use Rattle.raid_workload.specs.declared.workload.ItemLine.{ItemLine}
 use Rattle.raid_workload.specs.declared.workload.Switch.{Switch}
 use Rattle.raid_workload.specs.declared.workload.Homed.{Homed}
 use Rattle.raid_rules.specs.History.{noted}
-use Rattle.raid_legal.specs.Legal.{Legal}
+use Rattle.raid_legal.specs.Legal.{Legal, Allowed}
 use Rattle.raid_legal.specs.Serial.{Serial, Copies}
 use Rattle.raid_legal.specs.Switched.{Switched, Finished}
 use Rattle.raid_legal.specs.Sound.{Sound}
@@ -78,6 +78,10 @@ before k = noted (take k told.entries)
 -- the switch aborts nobody
 nobody : off_list w (before 4) methods.Generic kinds.Valid ≡ []
 nobody = refl
+
+-- so its abort may not come
+no_abort : Allowed w (before 5) (Abort t1 (causes.SwitchOff 1) acts.Nothing) → ⊥
+no_abort = λ q. q
 
 -- its history is legal
 legal : Legal w told.entries

@@ -12,6 +12,7 @@ use Rattle.raid_legal.specs.Serial.{Serial, Copies}
 use Rattle.raid_legal.specs.Switched.{Switched, Finished}
 use Rattle.raid_legal.specs.Sound.{Sound}
 use Rattle.raid_legal.proofs.Scene.{◌also◌, t1, t2, x, y, z, s1, request, item_line, home_at, number, load, store, copy_line}
+use Rattle.raid_legal.proofs.Apart.{apart, txns_code}
 
 -- what was run
 abbrev items : List ItemLine
@@ -58,6 +59,10 @@ told = record {
   finals = ((x, pos 5) ∷ (y, pos 1) ∷ (z, pos 0) ∷ []);
   copies = (copy_line s1 x (pos 5) 4 ∷ copy_line s1 y (pos 1) 5 ∷ copy_line s1 z (pos 0) 0 ∷ []);
 }
+
+-- in the order of the Commits the report would not be serial
+not_by_commits : Serial w (record told { order = t2 ∷ t1 ∷ [] }) → ⊥
+not_by_commits = λ q. apart txns_code _ _ refl q.in_order
 
 -- its history is legal
 legal : Legal w told.entries

@@ -11,11 +11,12 @@ use Rattle.raid_workload.specs.declared.workload.Workload.{Workload}
 use Rattle.raid_workload.specs.declared.workload.ItemLine.{ItemLine}
 use Rattle.raid_workload.specs.declared.workload.Homed.{Homed}
 use Rattle.raid_rules.specs.History.{noted}
-use Rattle.raid_legal.specs.Legal.{Legal}
+use Rattle.raid_legal.specs.Legal.{Legal, Allowed}
 use Rattle.raid_legal.specs.Serial.{Serial, Copies}
 use Rattle.raid_legal.specs.Switched.{Switched, Finished}
 use Rattle.raid_legal.specs.Sound.{Sound}
 use Rattle.raid_legal.proofs.Scene.{◌also◌, t1, t2, t3, x, y, z, s1, request, item_line, home_at, sum, number, load, store, copy_line}
+use Rattle.raid_legal.proofs.Apart.{untrue}
 use Rattle.raid_base.specs.declared.entry.Noted.{Noted}
 use Rattle.raid_legal.specs.Seen.{again}
 
@@ -75,6 +76,10 @@ before k = noted (take k told.entries)
 -- the third transaction is the first one's second attempt, and due
 again_due : again w (before 5) t3 ≡ true
 again_due = refl
+
+-- and begins once
+begins_once : Allowed w (before 6) (Begin t3 s1) → ⊥
+begins_once = λ q. untrue q.1
 
 -- its history is legal
 legal : Legal w told.entries

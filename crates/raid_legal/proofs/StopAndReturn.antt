@@ -9,11 +9,12 @@ use Rattle.raid_workload.specs.declared.workload.ItemLine.{ItemLine}
 use Rattle.raid_workload.specs.declared.workload.Event.{Event}
 use Rattle.raid_workload.specs.declared.workload.Homed.{Homed}
 use Rattle.raid_rules.specs.History.{noted}
-use Rattle.raid_legal.specs.Legal.{Legal}
+use Rattle.raid_legal.specs.Legal.{Legal, Allowed}
 use Rattle.raid_legal.specs.Serial.{Serial, Copies}
 use Rattle.raid_legal.specs.Switched.{Switched, Finished}
 use Rattle.raid_legal.specs.Sound.{Sound}
 use Rattle.raid_legal.proofs.Scene.{◌also◌, t1, t2, x, s1, s2, request, item_line, stops, returns, home_at, number, load, store, copy_line}
+use Rattle.raid_legal.proofs.Apart.{untrue}
 use Rattle.raid_base.specs.declared.entry.Noted.{Noted}
 use Rattle.raid_legal.specs.Seen.{is_locked, sources}
 
@@ -80,6 +81,10 @@ locked = refl
 -- and the other site is the only source
 alone : sources w (before 4) x ≡ s1 ∷ []
 alone = refl
+
+-- a copy that isn't locked may not be cleared
+once : Allowed w (before 9) (Clear s2 x 2) → ⊥
+once = λ q. untrue q
 
 -- its history is legal
 legal : Legal w told.entries

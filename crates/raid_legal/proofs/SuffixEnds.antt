@@ -12,7 +12,7 @@ use Rattle.raid_workload.specs.declared.workload.ItemLine.{ItemLine}
 use Rattle.raid_workload.specs.declared.workload.Switch.{Switch}
 use Rattle.raid_workload.specs.declared.workload.Homed.{Homed}
 use Rattle.raid_rules.specs.History.{noted}
-use Rattle.raid_legal.specs.Legal.{Legal}
+use Rattle.raid_legal.specs.Legal.{Legal, Allowed}
 use Rattle.raid_legal.specs.Serial.{Serial, Copies}
 use Rattle.raid_legal.specs.Switched.{Switched, Finished}
 use Rattle.raid_legal.specs.Sound.{Sound}
@@ -87,6 +87,10 @@ not_yet = refl
 -- once that one has ended, the switch is over
 over : end_due w (before 8) ≡ true
 over = refl
+
+-- the switch may not end before that
+no_end_yet : Allowed w (before 7) (SwitchEnd 1) → ⊥
+no_end_yet = λ q. q
 
 -- its history is legal
 legal : Legal w told.entries

@@ -33,7 +33,7 @@ cause_of Late = causes.Late
 cause_of Invalid = causes.Invalid
 cause_of Cycle = causes.Cycle
 
--- the entry that answers a read, given the site to serve it, if there is one, and the verdict
+-- the entry that answers a read, given the site to serve it, if there is one, and the verdict; no kind makes a read wait
 abbrev pub served : Txn → Item → Option Site → Verdict → Entry
 served t x None v = Abort t causes.NoCopy (acts.Read x)
 served t x (Some s) (verdicts.Reject why) = Abort t (cause_of why) (acts.Read x)
