@@ -1,4 +1,5 @@
 mod BodyAgain
+mod Both
 mod Exprs
 mod Formed
 mod Given

@@ -50,9 +50,9 @@ IsStatement items (statements.StopIf left right) = IsExpr left × IsExpr right
 
 statement_fits : (items : ℕ) (s : Statement) → is_statement items s ≡ true → IsStatement items s
 statement_fits items (statements.Read x reg) h =
-    let a = and_parts (leb reg 15 && ltb x.0 items) true h in
-    let b = and_parts (leb reg 15) (ltb x.0 items) a.0 in
-    (ltb-true _ _ b.1, omega (arith, leb-true _ _ b.0))
+    let a = and_parts (ltb reg 16 && ltb x.0 items) true h in
+    let b = and_parts (ltb reg 16) (ltb x.0 items) a.0 in
+    (ltb-true _ _ b.1, ltb-true _ _ b.0)
 statement_fits items (statements.Write x e) h =
     let a = and_parts (is_expr e && ltb x.0 items) (is_expr_of_i64 e) h in
     let b = and_parts (is_expr e) (ltb x.0 items) a.0 in

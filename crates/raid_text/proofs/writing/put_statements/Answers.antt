@@ -8,13 +8,13 @@ use Rattle.raid_text.proofs.writing.put_statements.Goals as goal
 
 pub statement_line-requires : goal.statement_line-requires
 statement_line-requires c =
-    let fit = rw (drop_more c.args.program.now c.loop-k.k c.get.result.now c.get.ensures) at c.loop-k.invariant.fit in
+    let fit = rw (drop_more c.args.program.now c.loop-k.k c.get.result.now c.get.ensures.is) at c.loop-k.invariant.fit in
     let p = and_parts (is_statement (length c.args.items.now) c.get.result.now) _ fit in
     p.0
 
 pub loop-k-preserved : goal.loop-k-preserved
 loop-k-preserved c =
-    let more = drop_more c.args.program.now c.loop-k.k c.get.result.now c.get.ensures in
+    let more = drop_more c.args.program.now c.loop-k.k c.get.result.now c.get.ensures.is in
     let fit = rw more at c.loop-k.invariant.fit in
     let written = rw more at c.loop-k.invariant.written in
     let p = and_parts (is_statement (length c.args.items.now) c.get.result.now) _ fit in
