@@ -9,7 +9,7 @@ use Rattle.raid_text.specs.Said.{Said, said, are_kept}
 use Rattle.raid_text.specs.Outcome.{Refusal, Reads, Answers, IsGiven, IsFirst, outcome_of}
 
 -- the workload of parts that keep the rules
-abbrev made : (p : Said) → are_kept p ≡ true → Workload
+abbrev pub made : (p : Said) → are_kept p ≡ true → Workload
 made p h = record { version = p.version; restarts = p.restarts; sites = p.sites; together = p.together; items = p.items; kind = p.kind; structure = p.structure; switches = p.switches; events = p.events; programs = p.programs; kept = h }
 
 -- the rules are kept in one way only
@@ -26,7 +26,7 @@ same_workload v w e = made_again v (said w) e w.kept
 abbrev fine : Said → Result Said Refusal
 fine p = Ok p
 
-same_said : (p q : Said) → fine p ≡ fine q → p ≡ q
+pub same_said : (p q : Said) → fine p ≡ fine q → p ≡ q
 same_said p q e = cc
 
 pub is_read : (text : List ℕ) (r : Result Workload Refused) → Answers r (outcome_of text) → IfOk r (λ w. Reads text w)

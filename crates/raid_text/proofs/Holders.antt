@@ -116,3 +116,11 @@ unfolding holders_at
 holders_ok sites words holders small e =
     let a = unless_ok (is_empty words) faults.NoCopy _ holders e in
     first_ok sites words holders small a.0 a.1
+
+-- up to a higher number
+pub higher : (low high top : ℕ) (sites : List Site) → high ≤ top → are_ascending low high sites ≡ true → are_ascending low top sites ≡ true
+higher low high top [] le h = refl
+higher low high top (s ∷ ss) le h =
+    let p = and_parts (is_within low high s.0) (are_ascending (s.0 + 1) high ss) h in
+    let w = within_parts low high s.0 p.0 in
+    rw (within low top s.0 w.0 (omega (arith, w.1)), higher (s.0 + 1) high top ss le p.1) refl

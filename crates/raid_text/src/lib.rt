@@ -5,6 +5,7 @@ mod body;
 mod choices;
 pub mod error;
 mod head;
+mod laws;
 mod names;
 pub mod reading;
 pub mod state;
@@ -12,5 +13,6 @@ mod statements;
 pub mod writing;
 
 pub use error::Refused;
+pub use laws::{never_both, one_of_both, one_reading, print_reads};
 pub use reading::parse;
 pub use writing::print;

@@ -1,5 +1,5 @@
 use crate::name::Name;
-use crate::workload::{Event, ItemLine, Switch, Workload};
+use crate::workload::{Event, Homed, ItemLine, Switch, Workload};
 use raid_base::{Duplicate, NoMemory};
 use std::alloc::Global;
 
@@ -29,5 +29,36 @@ impl Duplicate for Switch {
 impl Duplicate for Event {
     fn copy(&self, _alloc: Global) -> Result<Event, NoMemory> {
         Ok(*self)
+    }
+}
+
+impl Duplicate for Homed {
+    fn copy(&self, alloc: Global) -> Result<Homed, NoMemory> {
+        let program = self.program.copy(alloc)?;
+        Ok(Homed {
+            home: self.home,
+            program,
+        })
+    }
+}
+
+impl Duplicate for Workload {
+    fn copy(&self, alloc: Global) -> Result<Workload, NoMemory> {
+        let items = self.items.copy(alloc)?;
+        let switches = self.switches.copy(alloc)?;
+        let events = self.events.copy(alloc)?;
+        let programs = self.programs.copy(alloc)?;
+        Ok(Workload {
+            version: self.version,
+            restarts: self.restarts,
+            sites: self.sites,
+            together: self.together,
+            items,
+            kind: self.kind,
+            structure: self.structure,
+            switches,
+            events,
+            programs,
+        })
     }
 }

@@ -1,0 +1,9 @@
+//! Workloads made from a seed: transfers between the items of four sites, through three switches.
+#![tactic(auto)]
+
+mod draws;
+mod items;
+mod making;
+mod programs;
+
+pub use making::make;
