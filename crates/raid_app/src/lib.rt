@@ -1,0 +1,2 @@
+//! The one call that the program makes.
+#![tactic(auto)]
