@@ -1,0 +1,9 @@
+pub mod Body
+pub mod Choices
+pub mod Head
+pub mod Names
+pub mod Outcome
+pub mod Said
+pub mod Spelling
+pub mod Statements
+pub mod Used
