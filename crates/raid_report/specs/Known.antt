@@ -1,5 +1,5 @@
 -- Which reports are of a workload: they name only what it has, and leave nothing out.
-use Rattle.std.specs.Prelude.{◌≡◌, ℕ, ℤ, ◌+◌, ◌*◌, ◌<◌, ◌≤◌, List, [], map, filter, flat_map, length, slice_index_or, ⊤}
+use Rattle.std.specs.Prelude.{◌≡◌, ℤ, ◌+◌, ◌*◌, ◌<◌, ◌≤◌, List, [], map, filter, flat_map, length, slice_index_or, ⊤}
 use Rattle.std.specs.List.{AllByRecursion}
 use Rattle.raid_base.specs.declared.names.Txn.{Txn}
 use Rattle.raid_base.specs.declared.names.Item.{Item}
@@ -39,6 +39,13 @@ pub record KnowsRequest (w : Workload) (r : Request) : Type 0 where
   pub reads : AllByRecursion (KnowsPair w) r.reads
   pub writes : AllByRecursion (KnowsPair w) r.writes
   pub under : length r.under ≡ w.sites
+
+-- the items of the act are the workload's, and its vector has a number per site
+abbrev pub KnowsAct : Workload → Act → Type 0
+KnowsAct w acts.Nothing = ⊤
+KnowsAct w (acts.Ended reads) = AllByRecursion (KnowsPair w) reads
+KnowsAct w (acts.Read x) = KnowsItem w x
+KnowsAct w (acts.Commit r) = KnowsRequest w r
 
 -- the act is the action that was refused
 abbrev pub IsRefused : Workload → Act → Type 0
@@ -102,6 +109,9 @@ places w = flat_map (λ s. map (λ x. (s, x)) (held_at w s)) (sites w)
 -- the place of a copy
 abbrev pub place_of : CopyLine → Site × Item
 place_of c = (c.site, c.item)
+
+abbrev pub KnowsCopy : Workload → CopyLine → Type 0
+KnowsCopy w c = KnowsItem w c.item
 
 -- the report names only what the workload has; its finals are all items in order, its copies all copies in order
 pub record IsReportOf (w : Workload) (r : Report) : Type 0 where

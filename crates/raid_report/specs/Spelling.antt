@@ -27,10 +27,14 @@ Word = List ℕ
 
 -- ---- words
 
+-- each piece with a comma before it
+abbrev pub behind_commas : List Word → Word
+behind_commas pieces = flat_map (λ piece. 44 ∷ piece) pieces
+
 -- a hyphen where there is nothing, else the pieces with a comma between each two
 abbrev pub listed : List Word → Word
 listed [] = codes "-"
-listed (piece ∷ pieces) = piece ++ flat_map (λ next. 44 ∷ next) pieces
+listed (piece ∷ pieces) = piece ++ behind_commas pieces
 
 -- nothing for the first attempt, else a point and the attempt's number
 abbrev pub attempt_part : ℕ → Word

@@ -2,7 +2,7 @@
 #![tactic(auto)]
 
 mod put;
-// mod writing;
+mod writing;
 
 pub use raid_base::{CopyLine, CopyList, Report};
-
+pub use writing::print;

@@ -1,13 +1,15 @@
 //! Words, as they are put down behind what is written already.
 
-ghost use Rattle.std.specs.Prelude.{◌≡◌, ◌<◌, ◌≤◌, ℕ, ℤ, List, [], ◌∷◌, ◌++◌, length, map, flat_map, OnOk};
+ghost use Rattle.std.specs.Prelude.{◌≡◌, ◌<◌, ◌≤◌, ℕ, ℤ, List, [], ◌∷◌, ◌++◌, length, map, OnOk};
 ghost use Rattle.std.specs.Fmt.{decimal, signed_decimal};
 ghost use Rattle.std.specs.List.{AllByRecursion};
 ghost use Rattle.raid_report.specs.Known.{KnowsTxn, KnowsItem, KnowsPair};
-ghost use Rattle.raid_report.specs.Spelling.{txn_word, attempt_part, site_word, name_of, pair_part, pairs_word, session_part, vector_word, set_word, kind_word, method_word, spaced};
+ghost use Rattle.raid_report.specs.Spelling.{txn_word, attempt_part, site_word, name_of, pair_part, pairs_word, session_part, vector_word, set_word, kind_word, method_word, behind_commas};
 
 use itoa::Buffer;
-use raid_base::{Bytes, Item, Kind, Method, NoMemory, Pairs, Site, Sites, Txn, Vector, attempt_of, program_of};
+use raid_base::{
+    Bytes, Item, Kind, Method, NoMemory, Pairs, Site, Sites, Txn, Vector, attempt_of, program_of,
+};
 use raid_workload::Workload;
 
 /// Bytes as they are.
@@ -124,7 +126,7 @@ fn put_more_pairs(
     pairs: &[(Item, i64)],
 ) -> Result<(), NoMemory>
     requires { AllByRecursion (KnowsPair workload.now) pairs.now }
-    ensures { OnOk result (out.new ≡ out.old ++ flat_map (λ next. 44 ∷ next) (map (pair_part workload.now) pairs.now)) }
+    ensures { OnOk result (out.new ≡ out.old ++ behind_commas (map (pair_part workload.now) pairs.now)) }
 {
     for (item, value) in pairs {
         out.push(b',')?;
@@ -159,7 +161,7 @@ fn put_session_part(out: &mut Bytes, session: u32) -> Result<(), NoMemory>
 
 /// Sessions behind the first, a comma before each.
 fn put_more_sessions(out: &mut Bytes, sessions: &[u32]) -> Result<(), NoMemory>
-    ensures { OnOk result (out.new ≡ out.old ++ flat_map (λ next. 44 ∷ next) (map session_part sessions.now)) }
+    ensures { OnOk result (out.new ≡ out.old ++ behind_commas (map session_part sessions.now)) }
 {
     for session in sessions {
         out.push(b',')?;
@@ -206,4 +208,23 @@ pub fn method_word(method: Method) -> &'static [u8]
         Method::Convert => b"convert",
         Method::Suffix => b"suffix",
     }
+}
+
+/// The sites of a set.
+pub fn put_set(out: &mut Bytes, sites: Sites) -> Result<(), NoMemory>
+    ensures { OnOk result (out.new ≡ out.old ++ (32 ∷ set_word sites)) }
+{
+    if sites.is_empty() {
+        return put_word(out, b"-");
+    }
+    let mut mark = b' ';
+    for before in 0..8u8 {
+        let site = Site(before + 1);
+        if sites.contains(site) {
+            out.push(mark)?;
+            put_site_part(out, site)?;
+            mark = b',';
+        }
+    }
+    Ok(())
 }

@@ -1,0 +1,4 @@
+pub mod Acts
+pub mod Lists
+pub mod Parts
+pub mod Sets
