@@ -2,7 +2,7 @@ ghost use Rattle.std.specs.Prelude.{◌≡◌, ◌<◌, ◌^◌, ◌-◌, true, 
 ghost use Rattle.raid_report.specs.Known.{IsReportOf};
 ghost use Rattle.raid_app.specs.OneByOne as words;
 
-use raid_base::{NoMemory, Report};
+use raid_base::{Kind, NoMemory, Report, Structure};
 use raid_workload::Workload;
 use std::alloc::Global;
 
@@ -10,7 +10,24 @@ use std::alloc::Global;
 pub fn is_one_by_one(workload: &Workload) -> bool
     ensures { result ≡ words.is_one_by_one workload.now }
 {
-    false
+    workload.sites == 1
+        && workload.together == 1
+        && is_lock(workload.kind)
+        && is_native(workload.structure)
+        && workload.switches.is_empty()
+        && workload.events.is_empty()
+}
+
+fn is_lock(kind: Kind) -> bool
+    ensures { result ≡ words.is_lock kind }
+{
+    matches!(kind, Kind::Lock)
+}
+
+fn is_native(structure: Structure) -> bool
+    ensures { result ≡ words.is_native structure }
+{
+    matches!(structure, Structure::Native)
 }
 
 /// Runs the transactions of a workload one after another, and reports it.
