@@ -1,5 +1,6 @@
 -- How a program runs where all answers are given, and how the serial machine runs it.
-use Rattle.std.specs.Prelude.{ℕ, ℤ, pos, negsuc, ◌+ℤ◌, ◌-ℤ◌, ◌-◌, ◌^◌, int_lt, int_le, Bool, true, false, ◌&&◌, List, [], ◌∷◌, ◌++◌, fold, replicate, slice_index_or, slice_set, Option, Some, None, option_and_then, if◌then◌else◌}
+use Rattle.std.specs.Prelude.{◌≡◌, ◌||◌, ℕ, ℤ, pos, negsuc, ◌+ℤ◌, ◌-ℤ◌, ◌-◌, ◌^◌, int_lt, int_le, Bool, true, false, ◌&&◌, List, [], ◌∷◌, ◌++◌, fold, replicate, slice_index_or, slice_set, Option, Some, None, option_and_then, if◌then◌else◌}
+use Rattle.std.specs.Option.{option_map_or}
 use Rattle.raid_base.specs.declared.names.Item.{Item}
 use Rattle.raid_base.specs.Names.{is_item, holds}
 use Rattle.raid_base.specs.Find.{first_of}
@@ -8,6 +9,7 @@ use Rattle.raid_program.specs.declared.program.Term.TheVariants.{Reg, Value}
 use Rattle.raid_program.specs.declared.program.Expr.{Expr}
 use Rattle.raid_program.specs.declared.program.Statement.{Statement}
 use Rattle.raid_program.specs.declared.program.Statement.TheVariants as statements
+pub use Rattle.raid_program.specs.declared.program.Outcome.{Outcome}
 use Rattle.raid_program.specs.declared.program.Want.{Want}
 use Rattle.raid_program.specs.declared.program.Want.TheVariants.{Read, Done, Own, Overflow}
 
@@ -18,12 +20,6 @@ Answers = Item → Option ℤ
 -- the registers, the reads so far in order, and the writes so far, each item once
 pub record Progress : Type 0 where
   pub registers : List ℤ
-  pub reads : List (Item × ℤ)
-  pub writes : List (Item × ℤ)
-
--- how a run ended, with its reads and writes
-pub record Outcome : Type 0 where
-  pub end : Want
   pub reads : List (Item × ℤ)
   pub writes : List (Item × ℤ)
 
@@ -45,9 +41,13 @@ term_value registers (Value v) = v
 abbrev pub plus : ℤ → Bool → ℤ → Option ℤ
 plus a sign b = let c = if sign then a +ℤ b else a -ℤ b in if is_i64 c then Some c else None
 
+-- the sum so far with one more term, true being plus
+abbrev pub with_term : List ℤ → Option ℤ → Bool × Term → Option ℤ
+with_term registers sum t = option_and_then (λ a. plus a t.0 (term_value registers t.1)) sum
+
 -- an expression's value, computed from left to right, if no step leaves i64
 abbrev pub expr_value : List ℤ → Expr → Option ℤ
-expr_value registers e = fold (λ sum t. option_and_then (λ a. plus a t.0 (term_value registers t.1)) sum) (Some (term_value registers e.first)) e.rest
+expr_value registers e = fold (with_term registers) (Some (term_value registers e.first)) e.rest
 
 -- the pairs with the item's value replaced, or added at the end
 abbrev pub put : List (Item × ℤ) → Item → ℤ → List (Item × ℤ)
@@ -64,17 +64,17 @@ asks s x v = record s { reads = s.reads ++ (x, v) ∷ [] }
 abbrev pub writes : Progress → Item → ℤ → Progress
 writes s x v = record s { writes = put s.writes x v }
 
--- the value that the program wrote, or else read, before
-abbrev pub known : Progress → Item → Option ℤ
-known s x = if holds x s.writes then first_of x s.writes else first_of x s.reads
-
 -- the first one's value, or else the second's
 abbrev pub or_else : {X : Type 0} → Option X → Option X → Option X
 or_else (Some x) other = Some x
 or_else None other = other
 
--- the run goes on with the value, or ends where there is none
-abbrev pub with_value : Option ℤ → Outcome → (ℤ → Outcome) → Outcome
+-- the value that the program wrote, or else read, before
+abbrev pub known : Progress → Item → Option ℤ
+known s x = or_else (first_of x s.writes) (first_of x s.reads)
+
+-- what goes on with the value, or stops where there is none
+abbrev pub with_value : {X : Type 0} → Option ℤ → X → (ℤ → X) → X
 with_value (Some v) stop go = go v
 with_value None stop go = stop
 
@@ -109,3 +109,26 @@ is_done Overflow = false
 -- the serial machine: the table after the program, whose writes apply where it is done
 abbrev pub serially : Answers → List Statement → Answers
 serially table p = let o = outcome_of p table in if is_done o.end then written table o.writes else table
+
+-- the answers that the pairs give
+abbrev pub given : List (Item × ℤ) → Answers
+given pairs x = first_of x pairs
+
+-- the item whose value is wanted at the end
+abbrev pub asks_for : Want → Option Item
+asks_for (Read x) = Some x
+asks_for Done = None
+asks_for Own = None
+asks_for Overflow = None
+
+-- the run asked for the item's value: it read it, or ends with that wish
+abbrev pub has_asked : Outcome → Item → Bool
+has_asked o x = holds x o.reads || option_map_or (is_item x) (asks_for o.end) false
+
+-- the answers give the same for each item that passes the test
+abbrev pub Agree : (Item → Bool) → Answers → Answers → Type 0
+Agree test a b = (x : Item) → test x ≡ true → a x ≡ b x
+
+-- the answers of a table, in which an item's value stands at the place of its number
+abbrev pub values : List (Option ℤ) → Answers
+values slots x = slice_index_or slots x.0 None
