@@ -1,17 +1,17 @@
 -- What a run asked for decides its outcome.
-use Rattle.std.proofs.Common.{◌≡◌, ℕ, ℤ, Bool, true, false, ◌||◌, if◌then◌else◌, List, [], ◌∷◌, ◌++◌, Option, Some, None, refl, sym, ap, subst, ◌∙◌, arith, ◌<◌}
+use Rattle.std.proofs.Common.{◌≡◌, ℕ, ℤ, Bool, true, false, if◌then◌else◌, List, [], ◌∷◌, Option, Some, None, refl, ap, subst, ◌∙◌, arith}
 use Rattle.std.specs.Prelude.{int_lt, ⊤}
 use Rattle.std.specs.List.{All}
 use Rattle.std.proofs.lemmas.Bool.{or_left}
 use Rattle.std.proofs.lemmas.List.Elements.{All-push}
 use Rattle.std.proofs.lemmas.Grind.{common_steps}
 use Rattle.raid_base.specs.declared.names.Item.{Item}
-use Rattle.raid_base.specs.Names.{is_item, holds}
+use Rattle.raid_base.specs.Names.{holds}
 use Rattle.raid_program.specs.declared.program.Statement.{Statement}
 use Rattle.raid_program.specs.declared.program.Statement.TheVariants as statements
 use Rattle.raid_program.specs.declared.program.Want.{Want}
 use Rattle.raid_program.specs.declared.program.Want.TheVariants.{Read, Done, Own, Overflow}
-use Rattle.raid_program.specs.Run.{Answers, Progress, Outcome, opened, ended, expr_value, known, loads, asks, writes, with_value, run_from, outcome_of, asks_for, has_asked, Agree}
+use Rattle.raid_program.specs.Run.{Answers, Progress, Outcome, opened, ended, expr_value, known, loads, asks, writes, with_value, run_from, outcome_of, has_asked, Agree}
 use Rattle.raid_program.proofs.Finds.{still_holds, holds_last}
 
 -- what holds of both ways of a choice holds of the choice

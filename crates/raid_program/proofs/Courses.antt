@@ -1,11 +1,10 @@
 -- A run under way stays one of its program.
-use Rattle.std.proofs.Common.{◌≡◌, ◌≤◌, ◌<◌, ℕ, suc, ◌+◌, ℤ, Bool, true, false, ◌||◌, if◌then◌else◌, List, [], ◌∷◌, ◌++◌, length, drop, get_or, slice_get, Option, Some, None, Result, Ok, Err, refl, sym, ap, subst, ◌∙◌, arith, add-one, drop-cons}
+use Rattle.std.proofs.Common.{◌≡◌, ◌≤◌, ℕ, suc, ◌+◌, ℤ, Bool, true, false, if◌then◌else◌, List, [], ◌∷◌, ◌++◌, length, drop, slice_get, Option, Some, None, Result, Ok, Err, refl, sym, ap, subst, ◌∙◌, arith, add-one, drop-cons}
 use Rattle.std.specs.Prelude.{int_lt}
 use Rattle.std.proofs.Math.ListN.{drop_of_length-le}
-use Rattle.std.proofs.lemmas.Grind.{common_steps}
 use Rattle.std.proofs.lemmas.Option.{slice_get_within, get_or_from_slice_get}
 use Rattle.raid_base.specs.declared.names.Item.{Item}
-use Rattle.raid_base.specs.Names.{is_item, holds}
+use Rattle.raid_base.specs.Names.{holds}
 use Rattle.raid_base.specs.Find.{first_of}
 use Rattle.raid_program.specs.declared.program.Statement.{Statement}
 use Rattle.raid_program.specs.declared.program.Statement.TheVariants as statements
@@ -127,9 +126,10 @@ of_stop c d p s want o here t = record {
       o.goes_on a (subst (λ (z : Progress). Agree (λ x. holds x z.reads) a (given z.reads)) t.same agree) ∙ ap (λ z. run_from a z (drop c.place p)) (sym t.same) ∙ ap (λ k. run_from a (progress d) (drop k p)) (sym t.place);
   waits = λ x e.
       let reads : want ≡ Read x = asked_is want x (sym t.asked ∙ e) in
-      let is : s ≡ statements.Read x d.register = t.reads x reads in
-      (ap (λ k. slice_get p k) t.place ∙ here ∙ ap (λ z. Some z) is,
-      ap (λ z. known z x) t.same ∙ step_unknown (progress c) s x d.register is (t.step ∙ ap (λ w. Err w) reads));
+      let is : s ≡ statements.Read x d.register = t.reads x reads in (
+        ap (λ k. slice_get p k) t.place ∙ here ∙ ap (λ z. Some z) is,
+        ap (λ z. known z x) t.same ∙ step_unknown (progress c) s x d.register is (t.step ∙ ap (λ w. Err w) reads),
+      );
 }
 
 -- the outcome on the answers given, where the run stops before its next statement, and where none is left

@@ -1,8 +1,8 @@
 -- Values in pairs to which more were added.
-use Rattle.std.proofs.Common.{◌≡◌, ℤ, ◌==◌, Bool, true, false, ◌||◌, if◌then◌else◌, List, [], ◌∷◌, ◌++◌, Option, Some, None, refl, arith}
+use Rattle.std.proofs.Common.{◌≡◌, ℤ, true, List, [], ◌∷◌, ◌++◌, Some, None, arith}
 use Rattle.std.proofs.lemmas.Grind.{common_steps}
 use Rattle.raid_base.specs.declared.names.Item.{Item}
-use Rattle.raid_base.specs.Names.{is_item, holds}
+use Rattle.raid_base.specs.Names.{holds}
 use Rattle.raid_base.specs.Find.{first_of}
 
 -- an item that is there keeps its value, and stays there

@@ -1,5 +1,6 @@
 pub mod Lists
 pub mod Sums
+pub mod Tables
 pub mod Puts
 pub mod Asked
 pub mod Courses

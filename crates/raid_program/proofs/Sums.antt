@@ -1,5 +1,5 @@
 -- Sums, term by term.
-use Rattle.std.proofs.Common.{◌≡◌, ℕ, ◌+◌, ◌<◌, length, ℤ, Bool, List, [], ◌∷◌, fold, drop, get_or, Option, Some, None, refl, arith, add-one, drop-cons, ◌∙◌, ap, sym}
+use Rattle.std.proofs.Common.{◌≡◌, ℕ, ◌+◌, ◌<◌, length, ℤ, Bool, List, [], ◌∷◌, fold, drop, get_or, Option, Some, None, refl, add-one, drop-cons, ◌∙◌, ap, sym}
 use Rattle.raid_program.specs.declared.program.Term.{Term}
 use Rattle.raid_program.specs.Run.{with_term}
 

@@ -5,7 +5,7 @@ use Rattle.raid_base.specs.Names.{holds}
 use Rattle.raid_program.specs.declared.program.Statement.{Statement}
 use Rattle.raid_program.specs.declared.program.Statement.TheVariants as statements
 use Rattle.raid_program.specs.declared.program.Want.{Want}
-use Rattle.raid_program.specs.declared.program.Want.TheVariants.{Read, Done, Own, Overflow}
+use Rattle.raid_program.specs.declared.program.Want.TheVariants.{Read, Own, Overflow}
 use Rattle.raid_program.specs.Run.{Answers, Progress, expr_value, known, loads, writes, with_value, run_from, outcome_of, given, asks_for, Agree}
 
 -- where a run stands: the place of its next statement, its progress, and the item whose value it waits for, with the register that gets it

@@ -9,7 +9,7 @@ use Rattle.raid_program.specs.declared.program.Term.TheVariants.{Reg, Value}
 use Rattle.raid_program.specs.declared.program.Expr.{Expr}
 use Rattle.raid_program.specs.declared.program.Statement.{Statement}
 use Rattle.raid_program.specs.declared.program.Statement.TheVariants as statements
-pub use Rattle.raid_program.specs.declared.program.Outcome.{Outcome}
+use Rattle.raid_program.specs.declared.program.Outcome.{Outcome as Ended}
 use Rattle.raid_program.specs.declared.program.Want.{Want}
 use Rattle.raid_program.specs.declared.program.Want.TheVariants.{Read, Done, Own, Overflow}
 
@@ -22,6 +22,10 @@ pub record Progress : Type 0 where
   pub registers : List ℤ
   pub reads : List (Item × ℤ)
   pub writes : List (Item × ℤ)
+
+-- how a run ended, with its reads and writes
+abbrev pub Outcome : Type 0
+Outcome = Ended
 
 abbrev pub opened : Progress
 opened = record { registers = replicate 16 (pos 0); reads = []; writes = [] }

@@ -51,7 +51,86 @@ fn set(held: &mut Vec<Option<i64>>, item: Item, value: i64)
     held[place] = Some(value);
 }
 
+/// Gives the items the values of their first pairs, in the room that there is.
+fn set_all(held: &mut Vec<Option<i64>>, pairs: &[(Item, i64)])
+    requires { All (λ p. p.0.0 < vec_capacity held.old) pairs.now }
+    ensures { (x : Item) → values held.new.items x ≡ written (values held.old.items) pairs.now x }
+{
+    for k in (0..pairs.len()).rev() {
+        let (item, value) = pairs[k];
+        set(held, item, value);
+    }
+}
+
+/// The pairs as a list of their own.
+fn pairs_of(alloc: Global, pairs: &[(Item, i64)]) -> Result<Pairs, NoMemory>
+    ensures { IfOk result (λ copied. copied ≡ pairs.now) }
+{
+    let mut copied = Pairs::new(alloc);
+    for pair in pairs {
+        copied.push(*pair)?;
+    }
+    Ok(copied)
+}
+
 impl Table {
+    /// The table in which each item of the pairs has the value of its first pair, and no other item has one.
+    pub fn new(alloc: Global, pairs: &Pairs) -> Result<Table, NoMemory>
+        ensures { IfOk result (λ t. values t ≡ given pairs.now) }
+    {
+        let mut table = Table {
+            held: Vec::new(alloc),
+        };
+        table.apply(pairs.as_slice())?;
+        Ok(table)
+    }
+
+    /// Gives each item of the pairs the value of its first pair. After want of memory the table is as it was.
+    fn apply(&mut self, pairs: &[(Item, i64)]) -> Result<(), NoMemory>
+        ensures ok { OnOk result (values self.new ≡ written (values self.old) pairs.now) }
+        ensures err { OnErr result (self.new ≡ self.old) }
+    {
+        let missing = bound(pairs).saturating_sub(self.held.len());
+        self.held.reserve(missing)?;
+        set_all(&mut self.held, pairs);
+        Ok(())
+    }
+
+    /// Gives a run the table's values until it ends, or wants a value that the table doesn't have.
+    fn finish(&self, run: &mut Run, program: &Program) -> Want
+        requires of { IsOf run.old program.now }
+        requires start { run.old.reads ≡ [] }
+        ensures { outcome_of program.now (values self.now) ≡ record { end = result; reads = run.new.reads; writes = run.new.writes } }
+    {
+        loop {
+            let want = run.next(program);
+            let Want::Read(item) = want else {
+                return want;
+            };
+            let Some(value) = self.value(item) else {
+                return want;
+            };
+            run.give(value);
+        }
+    }
+
+    /// Runs the program on the table's values. Where it is done, its writes become the table's values; else,
+    /// and after want of memory, the table stays as it was.
+    pub fn run(&mut self, alloc: Global, program: &Program) -> Result<Outcome, NoMemory>
+        ensures outcome { IfOk result (λ o. o ≡ outcome_of program.now (values self.old)) }
+        ensures table { OnOk result (values self.new ≡ serially (values self.old) program.now) }
+        ensures err { OnErr result (self.new ≡ self.old) }
+    {
+        let mut run = Run::new(alloc, program)?;
+        let end = self.finish(&mut run, program);
+        let reads = pairs_of(alloc, run.reads())?;
+        let writes = pairs_of(alloc, run.writes())?;
+        if let Want::Done = end {
+            self.apply(run.writes())?;
+        }
+        Ok(Outcome { end, reads, writes })
+    }
+
     /// The item's value; None exactly where it has none.
     pub fn value(&self, item: Item) -> Option<i64>
         ensures { result ≡ values self.now item }

@@ -2,3 +2,4 @@ pub mod Acts
 pub mod Lists
 pub mod Parts
 pub mod Sets
+pub mod Totals

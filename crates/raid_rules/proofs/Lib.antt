@@ -1,3 +1,9 @@
+pub mod Acts
+pub mod Cycle
 pub mod Edges
+pub mod Listing
+pub mod Opening
 pub mod Push
 pub mod Reach
+pub mod Sources
+pub mod Txns

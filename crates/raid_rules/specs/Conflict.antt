@@ -1,6 +1,6 @@
 -- Conflicts: edges between transactions over a list of noted entries, paths, and the serial order.
-use Rattle.std.specs.Prelude.{◌≡◌, ℕ, ◌<◌, ◌==◌, nat_lt, Bool, true, false, not, ◌&&◌, ◌||◌, List, [], ◌∷◌, ◌++◌, length, fold, filter, filter_map, flat_map, map, find, Contains, Option, Some, None, option_to_list, option_map, if◌then◌else◌}
-use Rattle.std.specs.List.{list_any}
+use Rattle.std.specs.Prelude.{◌≡◌, ℕ, ◌<◌, nat_lt, Bool, true, false, not, ◌&&◌, ◌||◌, List, [], ◌∷◌, ◌++◌, fold, filter, filter_map, flat_map, map, find, Contains, Option, Some, None, option_to_list, option_map, if◌then◌else◌}
+use Rattle.std.specs.List.{list_any, list_all}
 use Rattle.raid_base.specs.declared.names.Txn.{Txn}
 use Rattle.raid_base.specs.declared.names.Item.{Item}
 use Rattle.raid_base.specs.declared.request.Request.{Request}
@@ -8,6 +8,7 @@ use Rattle.raid_base.specs.declared.entry.Entry.{Entry}
 use Rattle.raid_base.specs.declared.entry.Entry.TheVariants.{Read, Commit}
 use Rattle.raid_base.specs.declared.entry.Noted.{Noted}
 use Rattle.raid_base.specs.Names.{is_txn, is_item, has_txn}
+use Rattle.raid_rules.specs.declared.conflict.Action.{Action}
 use Rattle.raid_rules.specs.Entries.{reads_item, writes_item}
 use Rattle.raid_rules.specs.History.{has_aborted}
 
@@ -33,13 +34,6 @@ pub data Path (R : Txn → Txn → Type 0) : Txn → Txn → Type 0 where
   one : {t u : Txn} → R t u → Path R t u
   cons : {t u v : Txn} → R t u → Path R u v → Path R t v
 
--- an action: a read at its Read, a write at its transaction's Commit
-pub record Action : Type 0 where
-  pub at : ℕ
-  pub by : Txn
-  pub item : Item
-  pub writes : Bool
-
 -- the actions of an entry
 abbrev pub acts : Noted → Entry → List Action
 acts n (Read t x site) = record { at = n.at; by = t; item = x; writes = false } ∷ []
@@ -54,9 +48,13 @@ actions view = filter (λ a. not (has_aborted view a.by)) (flat_map (λ n. acts 
 abbrev pub precedes : Action → Action → Bool
 precedes a b = nat_lt a.at b.at && is_item a.item b.item && (a.writes || b.writes) && not (is_txn a.by b.by)
 
--- all edges, as pairs
+-- the edges among actions, as pairs, one for each two that clash
+abbrev pub edges_among : List Action → List (Txn × Txn)
+edges_among all = flat_map (λ a. map (λ b. (a.by, b.by)) (filter (precedes a) all)) all
+
+-- the edges of a view
 abbrev pub edges : List Noted → List (Txn × Txn)
-edges view = let all = actions view in flat_map (λ a. map (λ b. (a.by, b.by)) (filter (precedes a) all)) all
+edges view = edges_among (actions view)
 
 -- where the edges from these transactions lead
 abbrev pub targets : List (Txn × Txn) → List Txn → List Txn
@@ -101,4 +99,4 @@ listing pairs all = fold (λ listed t. list_next pairs all listed) [] all
 
 -- the serial order of the committed transactions, empty where they have a cycle
 abbrev pub serial_order : List Noted → List Txn
-serial_order p = let all = committed p in let listed = listing (edges p) all in if length listed == length all then listed else []
+serial_order p = let all = committed p in let listed = listing (edges p) all in if list_all (has_txn listed) all then listed else []

@@ -1,5 +1,5 @@
 -- Sessions, owed Acks, fail-locks and sources. The placement has the holders of each item, ascending.
-use Rattle.std.specs.Prelude.{ℕ, ◌-◌, nat_lt, Bool, false, not, ◌&&◌, ◌||◌, List, [], fold, filter, replicate, slice_set, slice_index_or, Option, find, if◌then◌else◌}
+use Rattle.std.specs.Prelude.{ℕ, ◌-◌, nat_lt, Bool, false, not, ◌&&◌, ◌||◌, List, [], fold, filter, replicate, slice_set, slice_index_or, Option, Some, slice_get, if◌then◌else◌}
 use Rattle.std.specs.List.{list_any}
 use Rattle.raid_base.specs.declared.names.Txn.{Txn}
 use Rattle.raid_base.specs.declared.names.Item.{Item}
@@ -8,7 +8,7 @@ use Rattle.raid_base.specs.declared.entry.Entry.{Entry}
 use Rattle.raid_base.specs.declared.entry.Entry.TheVariants.{Commit, Ack, Down, Up, Clear}
 use Rattle.raid_base.specs.declared.entry.Noted.{Noted}
 use Rattle.raid_base.specs.Names.{is_txn, is_item, is_site, has_site, holds}
-use Rattle.raid_base.specs.Sites.{session}
+use Rattle.raid_base.specs.Sites.{session, all_sites}
 use Rattle.raid_rules.specs.Entries.{is_commit}
 use Rattle.raid_rules.specs.History.{fold_seeing}
 
@@ -40,7 +40,7 @@ is_site_up v s = nat_lt 0 (session v s)
 
 -- whether the site owes the transaction's Ack after the entry
 abbrev pub turn_owed : Site → Txn → Bool → Entry → Bool
-turn_owed s t owed (Commit u request applied) = if is_txn t u then has_site applied s else owed
+turn_owed s t owed (Commit u request applied) = owed || (is_txn t u && has_site applied s)
 turn_owed s t owed (Ack u site) = owed && not (is_txn t u && is_site s site)
 turn_owed s t owed (Down site) = owed && not (is_site s site)
 turn_owed s t owed other = owed
@@ -64,14 +64,22 @@ turn_lock s x before locked other = locked
 abbrev pub holders : List (List Site) → Item → List Site
 holders placement x = slice_index_or placement x.0 []
 
+-- a copy at the site, if there is one, is locked
+abbrev pub is_copy_locked : List Noted → Site → Item → Bool
+is_copy_locked p s x = fold_seeing (λ before locked n. turn_lock s x before locked n.entry) [] false p
+
 -- the site holds a copy of the item, and it is locked
 abbrev pub is_locked : List (List Site) → List Noted → Site → Item → Bool
-is_locked placement p s x = has_site (holders placement x) s && fold_seeing (λ before locked n. turn_lock s x before locked n.entry) [] false p
+is_locked placement p s x = has_site (holders placement x) s && is_copy_locked p s x
 
--- the up sites with an unlocked copy of the item
+-- the site is up and has an unlocked copy of the item
+abbrev pub is_source : ℕ → List (List Site) → List Noted → Item → Site → Bool
+is_source sites placement p x s = has_site (holders placement x) s && is_site_up (vector sites p) s && not (is_copy_locked p s x)
+
+-- the sources of the item, ascending
 abbrev pub sources : ℕ → List (List Site) → List Noted → Item → List Site
-sources sites placement p x = filter (λ s. is_site_up (vector sites p) s && not (is_locked placement p s x)) (holders placement x)
+sources sites placement p x = filter (is_source sites placement p x) all_sites
 
--- the home where it is a source, else the least source
+-- of the sources found the home, where it is one, else the least
 abbrev pub source_for : List Site → Site → Option Site
-source_for found home = find (λ s. is_site home s || not (has_site found home)) found
+source_for found home = if has_site found home then Some home else slice_get found 0

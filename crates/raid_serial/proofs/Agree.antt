@@ -5,7 +5,8 @@ use Rattle.raid_base.specs.declared.names.Item.{Item}
 use Rattle.raid_program.specs.declared.program.Statement.{Statement}
 use Rattle.raid_program.specs.declared.program.Statement.TheVariants as statements
 use Rattle.raid_program.specs.declared.program.Want.TheVariants.{Read, Done, Own, Overflow}
-use Rattle.raid_program.specs.Run.{Answers, Outcome, Progress, ended, expr_value, known, loads, asks, writes, with_value, run_from, outcome_of, opened}
+use Rattle.raid_program.specs.declared.program.Outcome.{Outcome}
+use Rattle.raid_program.specs.Run.{Answers, Progress, ended, expr_value, known, loads, asks, writes, with_value, run_from, outcome_of, opened}
 
 agree_read : (k oa ob : Option ℤ) (x : Item) (s : Progress) (f f' g g' : ℤ → Outcome) → ((v : ℤ) → oa ≡ Some v → ob ≡ Some v) → ((v : ℤ) → (f v).end ≡ Done → f' v ≡ f v) → ((v : ℤ) → (g v).end ≡ Done → g' v ≡ g v) →
     (with_value k (with_value oa (ended (Read x) s) f) g).end ≡ Done → with_value k (with_value ob (ended (Read x) s) f') g' ≡ with_value k (with_value oa (ended (Read x) s) f) g

@@ -10,7 +10,8 @@ use Rattle.raid_base.specs.declared.entry.Entry.{Entry as Real}
 use Rattle.raid_base.specs.declared.entry.Noted.{Noted as RNoted}
 use Rattle.raid_base.specs.Names.{is_txn, has_txn}
 use Rattle.raid_base.specs.Find.{first_of}
-use Rattle.raid_program.specs.Run.{Answers, Outcome, outcome_of, serially, written, is_done, or_else as else_value}
+use Rattle.raid_program.specs.declared.program.Outcome.{Outcome}
+use Rattle.raid_program.specs.Run.{Answers, outcome_of, serially, written, is_done, or_else as else_value}
 use Rattle.raid_program.specs.declared.program.Want.TheVariants as wants
 use Rattle.raid_workload.specs.declared.workload.Workload.{Workload}
 use Rattle.raid_workload.specs.Parts.{program, initial as first_value}
@@ -22,7 +23,7 @@ use Rattle.raid_legal.specs.Seen.{value_of}
 use Rattle.raid_legal.specs.InForce.{in_force}
 use Rattle.raid_legal.specs.Legal.{Legal}
 use Rattle.raid_legal.specs.Serial.{RunsInOrder, table_after, first_table}
-use Rattle.raid_serial.specs.Committed.{CommittedEdge, AllOnce, is_before, IsSerialOrder}
+use Rattle.raid_rules.specs.Committed.{CommittedEdge, AllOnce, is_before, IsSerialOrder}
 use Rattle.raid_serial.proofs.Model.{Mem}
 use Rattle.raid_serial.proofs.Verdicts.{Com}
 use Rattle.raid_serial.proofs.System.{Hist, CEdge}

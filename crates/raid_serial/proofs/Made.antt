@@ -20,7 +20,8 @@ use Rattle.raid_base.specs.Names.{is_txn, is_item}
 use Rattle.raid_workload.specs.declared.workload.Workload.{Workload}
 use Rattle.raid_workload.specs.declared.workload.Switch.{Switch}
 use Rattle.raid_workload.specs.Parts.{home, program}
-use Rattle.raid_program.specs.Run.{Answers, Outcome, outcome_of}
+use Rattle.raid_program.specs.declared.program.Outcome.{Outcome}
+use Rattle.raid_program.specs.Run.{Answers, outcome_of}
 use Rattle.raid_rules.specs.Entries.{wait_of, is_end_of, reads_item}
 use Rattle.raid_rules.specs.History.{noted as noted_in, add, next, stamp, is_running, is_waiting, has_begun, has_ended, ends}
 use Rattle.raid_rules.specs.Verdicts.{writing}

@@ -26,7 +26,7 @@ use Rattle.raid_program.specs.Run.{Answers, outcome_of}
 use Rattle.raid_program.specs.declared.program.Want.TheVariants as wants
 use Rattle.raid_workload.specs.Parts.{program}
 use Rattle.raid_legal.specs.Legal.{Legal}
-use Rattle.raid_serial.specs.Committed.{AllOnce}
+use Rattle.raid_rules.specs.Committed.{AllOnce}
 use Rattle.raid_serial.proofs.Model.{Noted, Mem, IsRead, commit}
 use Rattle.raid_serial.proofs.System.{In}
 use Rattle.raid_serial.proofs.Serial.{Maybe, nothing, just, or_else, Val, Writes}
@@ -36,7 +36,7 @@ use Rattle.raid_serial.proofs.Grants.{has_last, has_before}
 use Rattle.raid_serial.proofs.Tamed.{by_last}
 use Rattle.raid_serial.proofs.Made.{Made, allowed_made, legal_waits}
 use Rattle.raid_serial.proofs.Facts.{some_is, none_is}
-use Rattle.raid_serial.proofs.Lists.{committed_has}
+use Rattle.raid_rules.proofs.Listing.{committed_has}
 
 -- a proof for each list by its last entry
 by_last_noted : (P : List RNoted → Type 0) → P [] → ((p : List RNoted) (n : RNoted) → P p → P (p ++ n ∷ [])) → (p : List RNoted) → P p

@@ -1,1 +1,11 @@
+mod AttemptHeard
+mod CopierHeard
+mod DeadlockHeard
+mod DoubleStop
+mod FirstRun
+mod LateDown
+pub mod Links
+pub mod Mail
 pub mod Settle
+mod StaleCommit
+mod StopInRun

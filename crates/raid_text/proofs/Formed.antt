@@ -106,7 +106,7 @@ read_ok names words x e =
     let a = bind_ok (item_at names words) _ x e in
     let b = bind_ok (register_at a.0.1) _ x a.2 in
     let c = bind_ok (end_at b.0.1) _ x b.2 in
-    let r : leb b.0.0 15 ≡ true = le-leb _ _ (omega (arith, register_at_ok a.0.1 b.0 b.1)) in
+    let r = lt-ltb b.0.0 16 (omega (arith, register_at_ok a.0.1 b.0 b.1)) in
     subst (λ (y : Statement). is_statement (length names) y ≡ true) (ok_is (statements.Read a.0.0 b.0.0) x c.2)
     (rw (r, lt-ltb a.0.0.0 (length names) (item_ok names words a.0 a.1)) refl)
 

@@ -1,3 +1,10 @@
 mod Formed
+mod Given
+mod Holders
 mod Keys
+mod Kept
+mod Leads
+mod Outcome
+mod States
+mod Stays
 mod Steps

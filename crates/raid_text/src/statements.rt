@@ -112,11 +112,7 @@ fn take_read<'a>(names: &Names<'a>, line: &'a [u8]) -> Result<Statement, Fault>
 
 /// The words of a write behind the first.
 #[tactic(auto, unfolding(crate::specs::Statements::write_at))]
-fn take_write<'a>(
-    alloc: Global,
-    names: &Names<'a>,
-    line: &'a [u8],
-) -> Result<Statement, LineError>
+fn take_write<'a>(alloc: Global, names: &Names<'a>, line: &'a [u8]) -> Result<Statement, LineError>
     ensures { Gives (λ x. x) result (write_at names.now (words_of line.now)) }
 {
     let (item, rest) = take_item(names, line)?;
@@ -140,11 +136,7 @@ fn take_stop_if(alloc: Global, line: &[u8]) -> Result<Statement, LineError>
 
 /// A line `read NAME REG`.
 #[tactic(auto, unfolding(crate::specs::Statements::statement_line))]
-pub fn read_line<'a>(
-    state: &mut State,
-    names: &Names<'a>,
-    line: &'a [u8],
-) -> Result<(), LineError>
+pub fn read_line<'a>(state: &mut State, names: &Names<'a>, line: &'a [u8]) -> Result<(), LineError>
     ensures line { Gives (λ _. state.new) result (statement_line state.old (read_at names.now (words_of line.now))) }
     ensures items { OnOk result (state.new.items ≡ state.old.items) }
 {

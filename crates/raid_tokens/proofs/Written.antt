@@ -166,7 +166,6 @@ name_bytes_visible (b ∷ bytes) h =
     rw (name_byte_visible b p.0) (name_bytes_visible bytes p.1)
 
 pub name_plain : (word : Word) → is_name word ≡ true → is_plain word ≡ true
-unfolding is_name
 name_plain [] h = absurd cc
 name_plain (b ∷ bytes) h =
     let p = and_parts (is_small b && leb (length bytes) 15) (list_all is_part bytes) h in

@@ -34,7 +34,6 @@ fn are_digits(bytes: &[u8]) -> bool
 }
 
 /// Whether a word is a name.
-#[tactic(auto, unfolding(raid_workload::specs::Name::is_name))]
 pub fn is_name(word: &[u8]) -> bool
     ensures { result ≡ is_name word.now }
 {

@@ -1,4 +1,4 @@
-use Rattle.std.proofs.Common.{◌≡◌, ◌+◌, ◌-◌, ◌≤◌, vec_len, vec_capacity}
+use Rattle.std.proofs.Common.{◌≡◌, ◌+◌, ◌-◌, vec_len, vec_capacity}
 use Rattle.raid_base.specs.declared.names.Item.{Item}
 use Rattle.raid_program.specs.Run.{values}
 use Rattle.raid_program.proofs.table.set.Given as goal

@@ -1,4 +1,4 @@
-use Rattle.std.proofs.Common.{rules, arith}
+use Rattle.std.proofs.Common.{arith}
 use Rattle.std.proofs.lemmas.Grind.{common_steps}
 use Rattle.raid_program.specs.Form.{is_formed}
 use Rattle.raid_program.proofs.Lists.{all_at}

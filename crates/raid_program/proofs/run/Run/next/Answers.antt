@@ -1,4 +1,4 @@
-use Rattle.std.proofs.Common.{◌≡◌, ℤ, List, Some, slice_get, subst, sym, ◌∙◌}
+use Rattle.std.proofs.Common.{◌≡◌, ℤ, List, Some, slice_get, subst, ◌∙◌}
 use Rattle.raid_base.specs.declared.names.Item.{Item}
 use Rattle.raid_program.specs.Run.{Outcome, outcome_of, given}
 use Rattle.raid_program.specs.Course.{Course}

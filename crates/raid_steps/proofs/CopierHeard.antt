@@ -1,0 +1,108 @@
+-- Two sites that hold an item are down in turn. The one that missed the write gets a copy once the other is back.
+use Rattle.std.specs.Prelude.{◌≡◌, ℕ, pos, false, List, [], ◌∷◌, take, slice_get, fold, refl}
+use Rattle.raid_base.specs.declared.entry.Entry.TheVariants.{Begin, Commit, Abort, Ack, Down, Up, Clear}
+use Rattle.raid_base.specs.declared.entry.Act.TheVariants as acts
+use Rattle.raid_base.specs.declared.entry.Cause.TheVariants as causes
+use Rattle.raid_base.specs.declared.verdict.Kind.TheVariants as kinds
+use Rattle.raid_base.specs.declared.verdict.Structure.TheVariants as structures
+use Rattle.raid_workload.specs.declared.workload.Workload.{Workload}
+use Rattle.raid_legal.proofs.Scene.{t1, t2, x, s1, s2, s3, request, item_line, home_at, number}
+use Rattle.std.specs.Option.{option_map_or}
+use Rattle.raid_message.specs.declared.letter.Letter.{Letter}
+use Rattle.raid_message.specs.declared.letter.Message.TheVariants as letters
+use Rattle.raid_steps.specs.State.{Out, Sequencer}
+use Rattle.raid_steps.specs.Sequencer.{hear_sequencer}
+use Rattle.raid_steps.specs.World.{run, first_servers}
+use Rattle.raid_steps.proofs.Mail.{letter}
+
+-- what is run
+abbrev w : Workload
+w = record {
+  version = 1;
+  restarts = 0;
+  sites = 3;
+  together = 3;
+  items =
+      item_line (120 ∷ []) (pos 0) (s1 ∷ s2 ∷ []) ∷
+      item_line (121 ∷ []) (pos 0) (s1 ∷ s2 ∷ []) ∷
+      item_line (122 ∷ []) (pos 0) (s1 ∷ s2 ∷ []) ∷
+      [];
+  kind = kinds.Lock;
+  structure = structures.Native;
+  switches = [];
+  events = [];
+  programs =
+      home_at s3 [] ∷
+      home_at s3 [] ∷
+      [];
+  kept = refl;
+}
+
+-- what the sequencer hears: the sender's server number, and the letter
+abbrev heard : List (ℕ × Letter)
+heard =
+    (0, (letter 0 0 (letters.Down s2 1))) ∷
+    (4, (letter 1 0 (letters.Begin t1))) ∷
+    (4, (letter 1 0 (letters.CommitAsk t1 (request [] ((x, pos 1) ∷ []) (1 ∷ 0 ∷ 1 ∷ []))))) ∷
+    (2, (letter 1 0 (letters.Ack t1))) ∷
+    (0, (letter 0 0 (letters.Down s1 1))) ∷
+    (3, (letter 2 0 letters.Hello)) ∷
+    (4, (letter 1 0 (letters.Begin t2))) ∷
+    (4, (letter 1 0 (letters.ReadAsk t2 1 x))) ∷
+    (2, (letter 2 0 letters.Hello)) ∷
+    (3, (letter 2 0 (letters.CopyDone x 3))) ∷
+    []
+
+-- the sequencer after so many letters
+abbrev after : ℕ → Sequencer
+after k = fold (λ s l. (hear_sequencer w s l.0 l.1).state) (first_servers w).sequencer (take k heard)
+
+-- what the next letter sends
+abbrev sent : ℕ → List Out
+sent k = option_map_or (λ l. (hear_sequencer w (after k) l.0 l.1).outs) (slice_get heard k) []
+
+-- the history at the end
+entries : (after 10).history ≡
+    Down s2 ∷
+    Begin t1 s3 ∷
+    Commit t1 (request [] ((x, pos 1) ∷ []) (1 ∷ 0 ∷ 1 ∷ [])) (s1 ∷ []) ∷
+    Ack t1 s1 ∷
+    Down s1 ∷
+    Up s2 2 ∷
+    Begin t2 s3 ∷
+    Abort t2 causes.NoCopy (acts.Read x) ∷
+    Up s1 2 ∷
+    Clear s2 x 3 ∷
+    []
+entries = refl
+
+-- what each letter sends, in order
+sent_0 : sent 0 ≡ ((2, 1, (letters.DownNote s2)) ∷ (4, 1, (letters.DownNote s2)) ∷ [])
+sent_0 = refl
+
+sent_1 : sent 1 ≡ []
+sent_1 = refl
+
+sent_2 : sent 2 ≡ ((2, 1, (letters.Apply t1 3)) ∷ (4, 1, (letters.Done t1)) ∷ (0, 0, (letters.Ends 1)) ∷ [])
+sent_2 = refl
+
+sent_3 : sent 3 ≡ []
+sent_3 = refl
+
+sent_4 : sent 4 ≡ ((4, 1, (letters.DownNote s1)) ∷ [])
+sent_4 = refl
+
+sent_5 : sent 5 ≡ ((3, 2, (letters.Welcome (0 ∷ 2 ∷ 1 ∷ []) 0)) ∷ (4, 1, (letters.UpNote s2 2)) ∷ [])
+sent_5 = refl
+
+sent_6 : sent 6 ≡ []
+sent_6 = refl
+
+sent_7 : sent 7 ≡ ((3, 2, (letters.Drop t2 false)) ∷ (4, 1, (letters.Drop t2 false)) ∷ (0, 0, (letters.Ends 2)) ∷ [])
+sent_7 = refl
+
+sent_8 : sent 8 ≡ ((2, 2, (letters.Welcome (2 ∷ 2 ∷ 1 ∷ []) 0)) ∷ (3, 2, (letters.UpNote s1 2)) ∷ (4, 1, (letters.UpNote s1 2)) ∷ (2, 2, (letters.CopyDo x s2 2)) ∷ [])
+sent_8 = refl
+
+sent_9 : sent 9 ≡ []
+sent_9 = refl

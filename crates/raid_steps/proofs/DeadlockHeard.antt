@@ -1,0 +1,89 @@
+-- The second of two commits would close a cycle of waits: one letter gives its abort and the other's commit.
+use Rattle.std.specs.Prelude.{◌≡◌, ℕ, pos, false, List, [], ◌∷◌, take, slice_get, fold, refl}
+use Rattle.raid_base.specs.declared.entry.Entry.TheVariants.{Begin, Read, Wait, Commit, Abort}
+use Rattle.raid_base.specs.declared.entry.Act.TheVariants as acts
+use Rattle.raid_base.specs.declared.entry.Cause.TheVariants as causes
+use Rattle.raid_base.specs.declared.verdict.Kind.TheVariants as kinds
+use Rattle.raid_base.specs.declared.verdict.Structure.TheVariants as structures
+use Rattle.raid_workload.specs.declared.workload.Workload.{Workload}
+use Rattle.raid_legal.proofs.Scene.{t1, t2, x, s1, request, item_line, home_at, number}
+use Rattle.std.specs.Option.{option_map_or}
+use Rattle.raid_message.specs.declared.letter.Letter.{Letter}
+use Rattle.raid_message.specs.declared.letter.Message.TheVariants as letters
+use Rattle.raid_steps.specs.State.{Out, Sequencer}
+use Rattle.raid_steps.specs.Sequencer.{hear_sequencer}
+use Rattle.raid_steps.specs.World.{run, first_servers}
+use Rattle.raid_steps.proofs.Mail.{letter}
+
+-- what is run
+abbrev w : Workload
+w = record {
+  version = 1;
+  restarts = 0;
+  sites = 1;
+  together = 3;
+  items =
+      item_line (120 ∷ []) (pos 0) (s1 ∷ []) ∷
+      item_line (121 ∷ []) (pos 0) (s1 ∷ []) ∷
+      item_line (122 ∷ []) (pos 0) (s1 ∷ []) ∷
+      [];
+  kind = kinds.Lock;
+  structure = structures.Native;
+  switches = [];
+  events = [];
+  programs =
+      home_at s1 [] ∷
+      home_at s1 [] ∷
+      [];
+  kept = refl;
+}
+
+-- what the sequencer hears: the sender's server number, and the letter
+abbrev heard : List (ℕ × Letter)
+heard =
+    (2, (letter 1 0 (letters.Begin t1))) ∷
+    (2, (letter 1 0 (letters.Begin t2))) ∷
+    (2, (letter 1 0 (letters.ReadAsk t1 1 x))) ∷
+    (2, (letter 1 0 (letters.ReadAsk t2 1 x))) ∷
+    (2, (letter 1 0 (letters.CommitAsk t1 (request ((x, pos 0) ∷ []) ((x, pos 1) ∷ []) (1 ∷ []))))) ∷
+    (2, (letter 1 0 (letters.CommitAsk t2 (request ((x, pos 0) ∷ []) ((x, pos 2) ∷ []) (1 ∷ []))))) ∷
+    []
+
+-- the sequencer after so many letters
+abbrev after : ℕ → Sequencer
+after k = fold (λ s l. (hear_sequencer w s l.0 l.1).state) (first_servers w).sequencer (take k heard)
+
+-- what the next letter sends
+abbrev sent : ℕ → List Out
+sent k = option_map_or (λ l. (hear_sequencer w (after k) l.0 l.1).outs) (slice_get heard k) []
+
+-- the history at the end
+entries : (after 6).history ≡
+    Begin t1 s1 ∷
+    Begin t2 s1 ∷
+    Read t1 x s1 ∷
+    Read t2 x s1 ∷
+    Wait t1 (request ((x, pos 0) ∷ []) ((x, pos 1) ∷ []) (1 ∷ [])) ∷
+    Abort t2 causes.Deadlock (acts.Commit (request ((x, pos 0) ∷ []) ((x, pos 2) ∷ []) (1 ∷ []))) ∷
+    Commit t1 (request ((x, pos 0) ∷ []) ((x, pos 1) ∷ []) (1 ∷ [])) (s1 ∷ []) ∷
+    []
+entries = refl
+
+-- what each letter sends, in order
+sent_0 : sent 0 ≡ []
+sent_0 = refl
+
+sent_1 : sent 1 ≡ []
+sent_1 = refl
+
+sent_2 : sent 2 ≡ ((2, 1, (letters.ReadDo t1 1 x s1 1)) ∷ [])
+sent_2 = refl
+
+sent_3 : sent 3 ≡ ((2, 1, (letters.ReadDo t2 1 x s1 1)) ∷ [])
+sent_3 = refl
+
+sent_4 : sent 4 ≡ []
+sent_4 = refl
+
+sent_5 : sent 5 ≡ ((2, 1, (letters.Drop t2 false)) ∷ (2, 1, (letters.Apply t1 7)) ∷ (2, 1, (letters.Done t1)) ∷ (0, 0, (letters.Ends 2)) ∷ [])
+sent_5 = refl

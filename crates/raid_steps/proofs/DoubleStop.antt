@@ -1,0 +1,70 @@
+-- A site stops twice before its Hello is heard: it comes up, and goes down again in the same step.
+use Rattle.std.specs.Prelude.{◌≡◌, ℕ, pos, List, [], ◌∷◌, take, slice_get, fold, refl}
+use Rattle.raid_base.specs.declared.entry.Entry.TheVariants.{Down, Up}
+use Rattle.raid_base.specs.declared.verdict.Kind.TheVariants as kinds
+use Rattle.raid_base.specs.declared.verdict.Structure.TheVariants as structures
+use Rattle.raid_workload.specs.declared.workload.Workload.{Workload}
+use Rattle.raid_legal.proofs.Scene.{s1, s2, item_line, home_at, number}
+use Rattle.std.specs.Option.{option_map_or}
+use Rattle.raid_message.specs.declared.letter.Letter.{Letter}
+use Rattle.raid_message.specs.declared.letter.Message.TheVariants as letters
+use Rattle.raid_steps.specs.State.{Out, Sequencer}
+use Rattle.raid_steps.specs.Sequencer.{hear_sequencer}
+use Rattle.raid_steps.specs.World.{run, first_servers}
+use Rattle.raid_steps.proofs.Mail.{letter}
+
+-- what is run
+abbrev w : Workload
+w = record {
+  version = 1;
+  restarts = 0;
+  sites = 2;
+  together = 3;
+  items =
+      item_line (120 ∷ []) (pos 0) (s1 ∷ s2 ∷ []) ∷
+      item_line (121 ∷ []) (pos 0) (s1 ∷ s2 ∷ []) ∷
+      item_line (122 ∷ []) (pos 0) (s1 ∷ s2 ∷ []) ∷
+      [];
+  kind = kinds.Lock;
+  structure = structures.Native;
+  switches = [];
+  events = [];
+  programs =
+      home_at s2 [] ∷
+      [];
+  kept = refl;
+}
+
+-- what the sequencer hears: the sender's server number, and the letter
+abbrev heard : List (ℕ × Letter)
+heard =
+    (0, (letter 0 0 (letters.Down s2 1))) ∷
+    (0, (letter 0 0 (letters.Down s2 2))) ∷
+    (3, (letter 2 0 letters.Hello)) ∷
+    []
+
+-- the sequencer after so many letters
+abbrev after : ℕ → Sequencer
+after k = fold (λ s l. (hear_sequencer w s l.0 l.1).state) (first_servers w).sequencer (take k heard)
+
+-- what the next letter sends
+abbrev sent : ℕ → List Out
+sent k = option_map_or (λ l. (hear_sequencer w (after k) l.0 l.1).outs) (slice_get heard k) []
+
+-- the history at the end
+entries : (after 3).history ≡
+    Down s2 ∷
+    Up s2 2 ∷
+    Down s2 ∷
+    []
+entries = refl
+
+-- what each letter sends, in order
+sent_0 : sent 0 ≡ ((2, 1, (letters.DownNote s2)) ∷ [])
+sent_0 = refl
+
+sent_1 : sent 1 ≡ []
+sent_1 = refl
+
+sent_2 : sent 2 ≡ ((3, 2, (letters.Welcome (1 ∷ 2 ∷ []) 1)) ∷ (2, 1, (letters.UpNote s2 2)) ∷ (2, 1, (letters.DownNote s2)) ∷ [])
+sent_2 = refl
