@@ -1,7 +1,6 @@
 -- The tables stand for the history with one more entry.
-use Rattle.std.proofs.Common.{◌≡◌, ℕ, ℤ, ◌+◌, ◌≤◌, ◌<◌, Bool, true, false, not, ◌||◌, ◌&&◌, if◌then◌else◌, List, [], ◌∷◌, ◌++◌, filter, fold, length, arith, refl, sym, ap, subst, ◌∙◌}
-use Rattle.std.specs.Prelude.{count_by, slice_index, Result, Ok, Err, OnOk}
-use Rattle.std.specs.List.{list_any}
+use Rattle.std.proofs.Common.{◌≡◌, ℕ, ◌+◌, ◌<◌, Bool, true, false, not, ◌||◌, ◌&&◌, if◌then◌else◌, List, [], ◌∷◌, ◌++◌, filter, fold, length, arith, refl, sym, ap, subst, ◌∙◌}
+use Rattle.std.specs.Prelude.{slice_index, Result, Ok, Err, OnOk}
 use Rattle.std.proofs.lemmas.Grind.{common_steps}
 use Rattle.std.proofs.lemmas.List.Kept.{AllPairs-filter}
 use Rattle.raid_base.specs.declared.names.Txn.{Txn}
@@ -11,14 +10,14 @@ use Rattle.raid_base.specs.declared.request.Request.{Request}
 use Rattle.raid_base.specs.declared.entry.Act.{Act}
 use Rattle.raid_base.specs.declared.entry.Cause.{Cause}
 use Rattle.raid_base.specs.declared.entry.Entry.{Entry}
-use Rattle.raid_base.specs.declared.entry.Entry.TheVariants.{Begin, Read, Wait, Commit, Abort}
+use Rattle.raid_base.specs.declared.entry.Entry.TheVariants.{Begin, Commit, Abort}
 use Rattle.raid_base.specs.declared.entry.Noted.{Noted}
 use Rattle.raid_base.specs.Names.{is_txn, has_txn, holds}
 use Rattle.raid_rules.specs.Entries.{is_begin_of, is_end_of, is_end, writes_of}
-use Rattle.raid_rules.specs.History.{noted, add, next, number_of, stamp, has_begun, has_ended, is_running, ends, version}
+use Rattle.raid_rules.specs.History.{noted, add, next, has_begun, has_ended, is_running, ends}
 use Rattle.raid_rules.proofs.Push.{number_of_push, has_begun_push, same_txn}
 use Rattle.raid_history.specs.declared.tables.Tables.{Tables}
-use Rattle.raid_history.specs.Tables.{may_follow, row, version_in, Ascends, Stands, AnswersAlike, Begins, Ends}
+use Rattle.raid_history.specs.Tables.{may_follow, version_in, Ascends, Stands, AnswersAlike, Begins, Ends}
 
 has_ended_push : (p : List Noted) (n : Noted) (t : Txn) → has_ended (p ++ n ∷ []) t ≡ (has_ended p t || is_end_of t n.entry)
 has_ended_push p n t = grind (arith, common_steps)

@@ -6,7 +6,7 @@ use Rattle.raid_base.specs.declared.entry.Entry.{Entry}
 use Rattle.raid_base.specs.declared.entry.Entry.TheVariants.{Begin, Read, Wait, Commit, Abort}
 use Rattle.raid_base.specs.declared.entry.Noted.{Noted}
 use Rattle.raid_base.specs.Names.{is_txn, has_txn}
-use Rattle.raid_rules.specs.History.{noted, stamp, has_begun, has_ended, is_running, ends, version}
+use Rattle.raid_rules.specs.History.{stamp, has_begun, has_ended, is_running, ends, version}
 use Rattle.raid_history.specs.declared.tables.Row.{Row}
 use Rattle.raid_history.specs.declared.tables.Tables.{Tables}
 

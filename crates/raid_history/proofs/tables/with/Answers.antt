@@ -1,5 +1,4 @@
-use Rattle.std.proofs.Common.{append_assoc, arith}
-use Rattle.std.proofs.lemmas.Grind.{common_steps}
+use Rattle.std.proofs.Common.{append_assoc}
 use Rattle.raid_history.proofs.tables.with.Goals as goal
 
 pub returns : goal.returns

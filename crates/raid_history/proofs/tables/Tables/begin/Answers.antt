@@ -1,4 +1,4 @@
-use Rattle.std.proofs.Common.{◌≡◌, List, subst, sym, arith, refl}
+use Rattle.std.proofs.Common.{List, subst, sym, arith, refl}
 use Rattle.std.proofs.lemmas.Grind.{common_steps}
 use Rattle.raid_base.specs.declared.names.Txn.{Txn}
 use Rattle.raid_history.specs.Tables.{Ascends}
