@@ -1,4 +1,5 @@
--- Conflicts: edges between transactions over a list of noted entries, paths, and the serial order.
+-- Conflicts: edges between transactions over a list of noted entries, paths, and the serial order. A list without cycles among the
+-- committed transactions is serializable: this is the serialization graph of Bernstein, Hadzilacos and Goodman (1987).
 use Rattle.std.specs.Prelude.{◌≡◌, ℕ, ◌<◌, nat_lt, Bool, true, false, not, ◌&&◌, ◌||◌, List, [], ◌∷◌, ◌++◌, fold, filter, filter_map, flat_map, map, find, Contains, Option, Some, None, option_to_list, option_map, if◌then◌else◌}
 use Rattle.std.specs.List.{list_any, list_all}
 use Rattle.raid_base.specs.declared.names.Txn.{Txn}
@@ -12,7 +13,7 @@ use Rattle.raid_rules.specs.declared.conflict.Action.{Action}
 use Rattle.raid_rules.specs.Entries.{reads_item, writes_item}
 use Rattle.raid_rules.specs.History.{has_aborted}
 
--- an action of t on the item and one of u on it, one of them a write
+-- the first entry is an action of t on the item, the second one of u, and one of them is a write
 abbrev pub clash : Txn → Txn → Item → Entry → Entry → Bool
 clash t u x a b = (writes_item t x a && (reads_item u x b || writes_item u x b)) || (reads_item t x a && writes_item u x b)
 
@@ -60,7 +61,7 @@ edges view = edges_among (actions view)
 abbrev pub targets : List (Txn × Txn) → List Txn → List Txn
 targets pairs ts = map (λ e. e.1) (filter (λ e. has_txn ts e.0) pairs)
 
--- the transactions that t reaches, by as many rounds as there are edges
+-- the transactions that t reaches, by as many rounds as there are edges, which finds all
 abbrev pub reached : List (Txn × Txn) → Txn → List Txn
 reached pairs t = fold (λ found e. targets pairs (t ∷ found)) [] pairs
 
@@ -101,6 +102,6 @@ list_next pairs all listed = listed ++ option_to_list (find (is_next pairs all l
 abbrev pub listing : List (Txn × Txn) → List Txn → List Txn
 listing pairs all = fold (λ listed t. list_next pairs all listed) [] all
 
--- the serial order of the committed transactions, empty where they have a cycle
+-- the serial order: all committed transactions, or none where they can't all be listed, which is where they have a cycle
 abbrev pub serial_order : List Noted → List Txn
 serial_order p = let all = committed p in let listed = listing (edges p) all in if list_all (has_txn listed) all then listed else []

@@ -64,26 +64,30 @@ abbrev pub writes_of : Entry → List (Item × ℤ)
 writes_of (Commit t request applied) = request.writes
 writes_of other = []
 
--- the same of one transaction
+-- the Begin of one transaction
 abbrev pub is_begin_of : Txn → Entry → Bool
 is_begin_of t = is_begin (is_txn t)
 
+-- its Commit
 abbrev pub is_commit_of : Txn → Entry → Bool
 is_commit_of t = is_commit (λ u request. is_txn t u)
 
+-- its Abort
 abbrev pub is_abort_of : Txn → Entry → Bool
 is_abort_of t = is_abort (λ u cause. is_txn t u)
 
+-- its end, a Commit or an Abort
 abbrev pub is_end_of : Txn → Entry → Bool
 is_end_of t e = is_commit_of t e || is_abort_of t e
 
--- a Commit or an Abort
+-- an end of whatever transaction
 abbrev pub is_end : Entry → Bool
 is_end e = is_commit (λ t request. true) e || is_abort (λ t cause. true) e
 
--- the transaction reads the item here, or writes it
+-- the entry is a Read of the item by the transaction
 abbrev pub reads_item : Txn → Item → Entry → Bool
 reads_item t x = is_read (λ u y s. is_txn t u && is_item x y)
 
+-- the entry is a Commit of the transaction that writes the item
 abbrev pub writes_item : Txn → Item → Entry → Bool
 writes_item t x = is_commit (λ u request. is_txn t u && holds x request.writes)

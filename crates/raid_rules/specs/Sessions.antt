@@ -35,10 +35,11 @@ turn_last s last other = last
 abbrev pub last_session : List Noted → Site → ℕ
 last_session p s = fold (λ last n. turn_last s last n.entry) 1 p
 
+-- the site has a session
 abbrev pub is_site_up : List ℕ → Site → Bool
 is_site_up v s = nat_lt 0 (session v s)
 
--- whether the site owes the transaction's Ack after the entry
+-- whether the site owes the transaction's Ack after the entry: from a Commit that is applied there until its Ack or a Down
 abbrev pub turn_owed : Site → Txn → Bool → Entry → Bool
 turn_owed s t owed (Commit u request applied) = owed || (is_txn t u && has_site applied s)
 turn_owed s t owed (Ack u site) = owed && not (is_txn t u && is_site s site)
@@ -53,14 +54,14 @@ owes p s t = fold (λ owed n. turn_owed s t owed n.entry) false p
 abbrev pub owes_for : List Noted → Site → Item → Bool
 owes_for p s x = list_any (λ n. is_commit (λ t request. holds x request.writes && owes p s t) n.entry) p
 
--- whether the copy is locked after the entry
+-- whether the copy is locked after the entry: a Commit passed it by, or the site went down with its Ack owed
 abbrev pub turn_lock : Site → Item → List Noted → Bool → Entry → Bool
 turn_lock s x before locked (Commit t request applied) = if holds x request.writes then not (has_site applied s) else locked
 turn_lock s x before locked (Down site) = locked || (is_site s site && owes_for before s x)
 turn_lock s x before locked (Clear site y version) = locked && not (is_site s site && is_item x y)
 turn_lock s x before locked other = locked
 
--- the sites that hold the item
+-- the sites that hold the item, none past the placement
 abbrev pub holders : List (List Site) → Item → List Site
 holders placement x = slice_index_or placement x.0 []
 
