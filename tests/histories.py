@@ -1,12 +1,13 @@
-"""Writes random histories and reports of the reference model as lemmas that the check computes.
+"""Writes random histories and runs of the reference model as lemmas that the check computes.
 
     histories.py CRATE COUNT SEED
 
 COUNT histories go into the proofs of the crate in that folder. Half are legal ones as the model draws them; in
 the others one entry is changed, dropped or moved. Each becomes the lemma that it is legal, or that it is up to
-an entry that may not come there, as the model says. A third as many reports of runs come with them. Each becomes
-the lemma that it is sound, or, where the run was cut off, that it is serial and its switches did what they may.
-The line printed has the counts.
+an entry that may not come there, as the model says. A third as many runs of the servers come with them. Each
+becomes the lemmas that the machine of raid_steps, given the same picks, ends with the same report, clocks and
+journals, and that the report is sound, or, where the run was cut off, that it is serial and its switches did
+what they may. The line printed has the counts.
 """
 import collections
 import dataclasses
@@ -39,15 +40,17 @@ def drawn(w, rng):
 
 
 def ran(w, rng):
-    """A run under a schedule that is drawn, some of them hostile; cut off at times."""
+    """A run under a schedule that is drawn, some of them hostile, cut off at times; and the schedule."""
     world, choose, most = raid_world.World(w), fuzz.Chooser(rng, w), rng.choice((20, 60, 150, 150))
+    schedule = []
     for k in range(most):
         choices = world.choices()
         pick = choose.choose(choices, k) if choices else None
         if pick is None:
             break
         world.pick(pick)
-    return world
+        schedule.append(pick)
+    return world, schedule
 
 
 def other(value, least, most, rng):
@@ -124,11 +127,10 @@ def judged(w, es):
     return out, bad
 
 
-def told(w, world):
-    """The lemmas on the report of a run."""
-    out = workload(w)
-    out += f"\nabbrev told : Report\ntold = {report(world.report())}\n"
-    return out + sound_parts(w, world.report(), finished=world.idle())
+def told(w, world, schedule):
+    """The lemmas on a run and its report."""
+    out = workload(w) + f"\nabbrev told : Report\ntold = {report(world.report())}\n"
+    return out + sound_parts(w, world.report(), finished=world.idle()) + run_lemmas(world, schedule)
 
 
 def count_parts(counts, w, es):
@@ -155,10 +157,11 @@ def history(rng, spoil, counts):
 def run(rng, counts):
     """The module of a run's report."""
     w = fuzz.random_workload(rng)
-    world = ran(w, rng)
+    world, schedule = ran(w, rng)
+    counts["picks"] += len(schedule)
     counts["reports sound" if world.idle() else "reports cut off, serial and switched"] += 1
     count_parts(counts, w, world.report().entries)
-    return told(w, world)
+    return told(w, world, schedule)
 
 
 def main():
@@ -168,7 +171,7 @@ def main():
     modules |= {f"Run{k}": run(random.Random(f"{seed} run {k}"), counts) for k in range(count // 3)}
     for module, out in modules.items():
         with open(os.path.join(crate, "proofs", module + ".antt"), "w") as f:
-            f.write(f"-- A random one, of seed {seed}.\n{used(HEAD, out)}{out}")
+            f.write(f"-- A random one, of seed {seed}.\n{used(HEAD + STEPS_HEAD, out)}{out}")
     with open(os.path.join(crate, "proofs", "Lib.antt"), "w") as f:
         f.write("".join(f"mod {module}\n" for module in sorted(modules)))
     print("; ".join(f"{what}: {n}" for what, n in sorted(counts.items())))

@@ -1,5 +1,5 @@
 #!/bin/sh
-# Judges random histories and reports of the reference model by the definitions of raid_legal: see histories.py.
+# Judges random histories and runs of the reference model by the definitions: see histories.py.
 # RAID_ORACLE names the folder of the model, RAID_HISTORIES how many there are to be (20), RAID_SEED which (1).
 cd "$(dirname "$0")/.." || exit 1
 oracle=${RAID_ORACLE:-../shared/oracle}
@@ -15,12 +15,13 @@ trap 'rm -rf "$scratch"' EXIT
 # a copy of the crates that the lemmas stand on, and a crate for the lemmas
 mkdir -p "$scratch/crates/trial/src" "$scratch/crates/trial/specs" "$scratch/crates/trial/proofs"
 cp HANDLES "$scratch"
-for crate in raid_base raid_program raid_workload raid_rules raid_legal; do
+below="raid_base raid_program raid_workload raid_rules raid_legal raid_message raid_steps"
+for crate in $below; do
     mkdir "$scratch/crates/$crate"
     cp -r "crates/$crate/src" "crates/$crate/specs" "crates/$crate/proofs" "$scratch/crates/$crate/"
     grep "^$crate:" crates.txt >> "$scratch/crates.txt"
 done
-echo "trial: raid_base raid_program raid_workload raid_rules raid_legal" >> "$scratch/crates.txt"
+echo "trial: $below" >> "$scratch/crates.txt"
 printf '//! Random histories.\n#![tactic(auto)]\n' > "$scratch/crates/trial/src/lib.rt"
 : > "$scratch/crates/trial/specs/Lib.antt"
 

@@ -135,3 +135,15 @@ def sound_parts(w, r, finished=True):
         out += f"\n-- nothing is left to do\nfinished : Finished w told.entries\nfinished = {FINISHED}\n"
         out += "\n-- so it is sound\nsound : Sound w told\nsound = record { legal = legal; serial = serial; copies = copies; switched = switched; finished = finished }\n"
     return out
+
+
+def run_lemmas(world, schedule):
+    """Lemmas on a run of the workload `w`, whose end the report `told` tells."""
+    out = f"\n-- who takes a letter from whom\nabbrev schedule : List Pick\nschedule = {listed([f'takes {a} {b}' for a, b in schedule])}\n"
+    out += "\n-- the run ends so\nends_so : report w (run w schedule).servers ≡ told\nends_so = refl\n"
+    out += "\n-- each pick found a letter\nis_one : is_schedule w schedule ≡ true\nis_one = refl\n"
+    left = "no letter is left" if world.idle() else "letters are left"
+    out += f"\n-- {left}\nidle : is_idle (run w schedule) ≡ {boolean(world.idle())}\nidle = refl\n"
+    out += f"\n-- the servers' clocks, in the order of their numbers\nclocks : (run w schedule).clocks ≡ {numbers(world.clocks)}\nclocks = refl\n"
+    journals = stacked([listed([f"step {c} {f}" for c, f in j]) for j in world.journals])
+    return out + f"\n-- the steps of each server\njournals : (run w schedule).journals ≡{journals}\njournals = refl\n"

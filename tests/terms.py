@@ -43,6 +43,16 @@ use Rattle.raid_legal.proofs.Scene.{◌also◌, txn, item, site, t1, t2, t3, t4,
 use Rattle.raid_legal.proofs.Apart.{apart, untrue, site_code, count_code, pairs_code, txns_code, entry_code, answer_code, want_code}
 """
 
+STEPS_HEAD = """use Rattle.std.specs.Option.{option_map_or}
+use Rattle.raid_message.specs.declared.letter.Letter.{Letter}
+use Rattle.raid_message.specs.declared.letter.Message.TheVariants as letters
+use Rattle.raid_message.specs.declared.letter.Pick.{Pick}
+use Rattle.raid_steps.specs.State.{Out, Sequencer}
+use Rattle.raid_steps.specs.Sequencer.{hear_sequencer}
+use Rattle.raid_steps.specs.World.{run, report, is_schedule, is_idle, first_servers}
+use Rattle.raid_steps.proofs.Mail.{letter, takes, step}
+"""
+
 
 def used(head, body):
     """Of the head's imports those that the body uses, its comments aside."""

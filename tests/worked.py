@@ -225,17 +225,6 @@ def legal_example(module, folder):
         f.write(f"-- {shows}\n{used(HEAD + FACT_IMPORTS, out)}{out}")
 
 
-STEPS_IMPORTS = """use Rattle.std.specs.Option.{option_map_or}
-use Rattle.raid_message.specs.declared.letter.Letter.{Letter}
-use Rattle.raid_message.specs.declared.letter.Message.TheVariants as letters
-use Rattle.raid_message.specs.declared.letter.Pick.{Pick}
-use Rattle.raid_steps.specs.State.{Out, Sequencer}
-use Rattle.raid_steps.specs.Sequencer.{hear_sequencer}
-use Rattle.raid_steps.specs.World.{run, report, is_schedule, is_idle, first_servers}
-use Rattle.raid_steps.proofs.Mail.{letter, takes, step}
-"""
-
-
 def letters_heard(letters, **options):
     """The workload, each letter that a sequencer heard with what it sent, and the history at the end."""
     log, hear = [], raid_world.Sequencer.hear
@@ -267,7 +256,7 @@ def heard(shows, *args, **options):
     for k, (_, _, outs) in enumerate(log):
         sends = listed([f"({to}, {session}, {message(m)})" for to, session, m in outs])
         out += f"{chr(10) * (k > 0)}sent_{k} : sent {k} ≡ {sends}\nsent_{k} = refl\n"
-    return f"-- {shows}\n{used(HEAD + STEPS_IMPORTS, out)}{out}"
+    return f"-- {shows}\n{used(HEAD + STEPS_HEAD, out)}{out}"
 
 
 def run_of(shows, w, schedule):
@@ -275,17 +264,9 @@ def run_of(shows, w, schedule):
     world = raid_world.World(w)
     for p in schedule:
         assert world.pick(p)
-    out = "\n-- what is run" + workload(w)
-    picks = listed([f"takes {a} {b}" for a, b in schedule])
-    out += f"\n-- who takes a letter from whom\nabbrev schedule : List Pick\nschedule = {picks}\n"
-    out += f"\n-- what is told at the end\nabbrev told : Report\ntold = {report(world.report())}\n"
-    out += "\n-- the run ends so\nends_so : report w (run w schedule).servers ≡ told\nends_so = refl\n"
-    out += "\n-- each pick found a letter\nis_one : is_schedule w schedule ≡ true\nis_one = refl\n"
-    out += f"\n-- {'no letter is left' if world.idle() else 'letters are left'}\nidle : is_idle (run w schedule) ≡ {boolean(world.idle())}\nidle = refl\n"
-    out += f"\n-- the servers' clocks, in the order of their numbers\nclocks : (run w schedule).clocks ≡ {numbers(world.clocks)}\nclocks = refl\n"
-    journals = stacked([listed([f"step {c} {f}" for c, f in j]) for j in world.journals])
-    out += f"\n-- the steps of each server\njournals : (run w schedule).journals ≡{journals}\njournals = refl\n"
-    return f"-- {shows}\n{used(HEAD + STEPS_IMPORTS, out)}{out}"
+    out = "\n-- what is run" + workload(w) + f"\n-- what is told at the end\nabbrev told : Report\ntold = {report(world.report())}\n"
+    out += run_lemmas(world, schedule)
+    return f"-- {shows}\n{used(HEAD + STEPS_HEAD, out)}{out}"
 
 
 def fixed(shows, *lines):

@@ -39,10 +39,6 @@ w = record {
   kept = refl;
 }
 
--- who takes a letter from whom
-abbrev schedule : List Pick
-schedule = (takes 2 1 ∷ takes 1 2 ∷ takes 1 2 ∷ takes 2 1 ∷ takes 1 2 ∷ takes 0 1 ∷ takes 2 1 ∷ takes 1 2 ∷ takes 2 1 ∷ [])
-
 -- what is told at the end
 abbrev told : Report
 told = record {
@@ -56,6 +52,10 @@ told = record {
   finals = ((x, pos 105) ∷ []);
   copies = (copy_line s1 x (pos 105) 3 ∷ []);
 }
+
+-- who takes a letter from whom
+abbrev schedule : List Pick
+schedule = (takes 2 1 ∷ takes 1 2 ∷ takes 1 2 ∷ takes 2 1 ∷ takes 1 2 ∷ takes 0 1 ∷ takes 2 1 ∷ takes 1 2 ∷ takes 2 1 ∷ [])
 
 -- the run ends so
 ends_so : report w (run w schedule).servers ≡ told

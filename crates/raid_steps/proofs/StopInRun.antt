@@ -46,10 +46,6 @@ w = record {
   kept = refl;
 }
 
--- who takes a letter from whom
-abbrev schedule : List Pick
-schedule = (takes 2 1 ∷ takes 3 1 ∷ takes 1 2 ∷ takes 3 2 ∷ takes 2 3 ∷ takes 1 2 ∷ takes 0 1 ∷ takes 2 1 ∷ takes 1 2 ∷ takes 2 1 ∷ takes 3 0 ∷ takes 0 3 ∷ takes 1 0 ∷ takes 1 2 ∷ takes 2 1 ∷ takes 1 2 ∷ takes 2 1 ∷ takes 1 2 ∷ takes 0 1 ∷ takes 2 1 ∷ takes 3 0 ∷ takes 1 3 ∷ takes 3 1 ∷ takes 2 1 ∷ takes 3 1 ∷ takes 2 1 ∷ takes 3 2 ∷ takes 1 3 ∷ [])
-
 -- what is told at the end
 abbrev told : Report
 told = record {
@@ -68,6 +64,10 @@ told = record {
   finals = ((x, pos 1) ∷ []);
   copies = (copy_line s1 x (pos 1) 2 ∷ copy_line s2 x (pos 1) 2 ∷ []);
 }
+
+-- who takes a letter from whom
+abbrev schedule : List Pick
+schedule = (takes 2 1 ∷ takes 3 1 ∷ takes 1 2 ∷ takes 3 2 ∷ takes 2 3 ∷ takes 1 2 ∷ takes 0 1 ∷ takes 2 1 ∷ takes 1 2 ∷ takes 2 1 ∷ takes 3 0 ∷ takes 0 3 ∷ takes 1 0 ∷ takes 1 2 ∷ takes 2 1 ∷ takes 1 2 ∷ takes 2 1 ∷ takes 1 2 ∷ takes 0 1 ∷ takes 2 1 ∷ takes 3 0 ∷ takes 1 3 ∷ takes 3 1 ∷ takes 2 1 ∷ takes 3 1 ∷ takes 2 1 ∷ takes 3 2 ∷ takes 1 3 ∷ [])
 
 -- the run ends so
 ends_so : report w (run w schedule).servers ≡ told
