@@ -10,6 +10,8 @@ mod names;
 pub mod reading;
 pub mod state;
 mod statements;
+#[cfg(test)]
+mod tests;
 pub mod writing;
 
 pub use error::Refused;
