@@ -116,7 +116,7 @@ def judged(w, es):
     bad = first_illegal(w, es)
     legal_part = es if bad is None else es[:bad - 1]
     proofs, refusal = followed(w, es)
-    out = f"\nabbrev w : Workload\nw = {workload(w)}\n"
+    out = workload(w)
     out += f"\nabbrev h : List Entry\nh ={' ' * (not legal_part)}{stacked([entry(e) for e in legal_part])}\n"
     out += f"\nlegal : Legal w h\nlegal = {all_of(proofs)}\n"
     if bad is not None:
@@ -126,7 +126,7 @@ def judged(w, es):
 
 def told(w, world):
     """The lemmas on the report of a run."""
-    out = f"\nabbrev w : Workload\nw = {workload(w)}\n"
+    out = workload(w)
     out += f"\nabbrev told : Report\ntold = {report(world.report())}\n"
     return out + sound_parts(w, world.report(), finished=world.idle())
 

@@ -30,13 +30,17 @@ use Rattle.raid_base.specs.declared.verdict.Structure.TheVariants as structures
 use Rattle.raid_base.specs.declared.report.Report.{Report}
 use Rattle.raid_program.specs.declared.program.Term.TheVariants as terms
 use Rattle.raid_workload.specs.declared.workload.Workload.{Workload}
+use Rattle.raid_workload.specs.declared.workload.ItemLine.{ItemLine}
+use Rattle.raid_workload.specs.declared.workload.Switch.{Switch}
+use Rattle.raid_workload.specs.declared.workload.Event.{Event}
+use Rattle.raid_workload.specs.declared.workload.Homed.{Homed}
 use Rattle.raid_rules.specs.History.{noted}
 use Rattle.raid_legal.specs.Legal.{Legal, Allowed}
 use Rattle.raid_legal.specs.Serial.{Serial, Copies}
 use Rattle.raid_legal.specs.Switched.{Switched, Finished}
 use Rattle.raid_legal.specs.Sound.{Sound}
 use Rattle.raid_legal.proofs.Scene.{◌also◌, txn, item, site, t1, t2, t3, t4, x, y, z, s1, s2, s3, request, item_line, switch, stops, returns, home_at, sum, number, load, store, stop_if, copy_line}
-use Rattle.raid_legal.proofs.Apart.{apart, untrue, site_code, count_code, pairs_code, entry_code, answer_code, want_code}
+use Rattle.raid_legal.proofs.Apart.{apart, untrue, site_code, count_code, pairs_code, txns_code, entry_code, answer_code, want_code}
 """
 
 
@@ -168,15 +172,22 @@ def item_line(line):
 
 
 def workload(w):
-    switches = [f"switch kinds.{KINDS[s.kind]} methods.{METHODS[s.method]} {s.trigger}" for s in w.switches]
-    events = [f"{'stops' if e.stop else 'returns'} {site(e.site)} {e.trigger}" for e in w.events]
-    programs = [f"home_at {site(h.home)} {listed([statement(s) for s in h.program])}" for h in w.programs]
-    structure = "Native" if w.structure == "native" else "GenericState"
-    fields = dict(version=w.version, restarts=w.restarts, sites=w.sites, together=w.together,
-                  items=stacked([item_line(line) for line in w.items]), kind="kinds." + KINDS[w.kind],
-                  structure="structures." + structure, switches=listed(switches), events=listed(events),
-                  programs=stacked(programs), kept="refl")
-    return "record {\n" + "".join(f"  {k} = {v};\n".replace("= \n", "=\n") for k, v in fields.items()) + "}"
+    """The definitions of the workload `w`: its longer parts, and the record, which keeps the rules by computation."""
+    parts = dict(
+        items=("ItemLine", [item_line(line) for line in w.items]),
+        switches=("Switch", [f"switch kinds.{KINDS[s.kind]} methods.{METHODS[s.method]} {s.trigger}" for s in w.switches]),
+        events=("Event", [f"{'stops' if e.stop else 'returns'} {site(e.site)} {e.trigger}" for e in w.events]),
+        programs=("Homed", [f"home_at {site(h.home)} {listed([statement(s) for s in h.program])}" for h in w.programs]))
+    out = ""
+    for part, (sort, lines) in parts.items():
+        if lines:
+            out += f"\nabbrev {part} : List {sort}\n{part} ={stacked(lines)}\n"
+    fields = dict(version=w.version, restarts=w.restarts, sites=w.sites, together=w.together, items="items",
+                  kind="kinds." + KINDS[w.kind], structure="structures." + ("Native" if w.structure == "native" else "GenericState"),
+                  switches="switches", events="events", programs="programs")
+    fields = {k: "[]" if k in parts and not parts[k][1] else v for k, v in fields.items()}
+    lines = "".join(f"  {k} = {v};\n" for k, v in dict(fields, kept="refl").items())
+    return out + f"\nabbrev w : Workload\nw = record {{\n{lines}}}\n"
 
 
 def report(r):

@@ -127,31 +127,73 @@ LEGAL_EXAMPLES = {
                                count=2, programs=[["read x r0", "write y r0 + 1"], ["write x 5"]])),
 }
 
-# what to look at in an example: a name, what it says, and the statement
+# what to look at in an example: a name, what it says, the statement, and its proof where that is no computation
 FACTS = {
-    "Deadlock": [("closes", "were the second to wait too, it would wait for itself",
-                  "closes_waits w (before 5) t2 (request ((x, pos 0) ∷ []) ((x, pos 2) ∷ []) (1 ∷ [])) ≡ true"),
-                 ("woken_first", "once it is gone the first must be answered",
-                  "woken w (before 6) ≡ Some (Commit t1 (request ((x, pos 0) ∷ []) ((x, pos 1) ∷ []) (1 ∷ [])) (s1 ∷ []))")],
-    "LateRead": [("late", "the younger one's write refuses the read",
-                  "verdict w (before 3) (reading t1 1 x) ≡ verdicts.Reject refusals.Late")],
-    "InvalidRead": [("invalid", "the write since its Begin refuses the commit",
-                     "verdict w (before 4) (writing t1 1 ((y, pos 1) ∷ [])) ≡ verdicts.Reject refusals.Invalid")],
-    "CycleRefused": [("cycle", "the second commit would come before and behind the first",
-                      "verdict w (before 5) (writing t2 2 ((x, pos 2) ∷ [])) ≡ verdicts.Reject refusals.Cycle")],
-    "GenericSwitch": [("nobody", "the switch aborts nobody", "off_list w (before 4) methods.Generic kinds.Valid ≡ []")],
-    "ConvertSwitch": [("first", "the switch aborts the reader", "off_list w (before 4) methods.Convert kinds.Lock ≡ t1 ∷ []")],
-    "BothGrant": [("old", "the old controller would grant the commit",
-                   "verdict_of kinds.Valid (before 6) (writing t1 1 ((x, pos 1) ∷ [])) ≡ verdicts.Grant"),
-                  ("both", "the two together don't",
-                   "verdict w (before 6) (writing t1 1 ((x, pos 1) ∷ [])) ≡ verdicts.Reject refusals.Late")],
-    "SuffixEnds": [("not_yet", "no old transaction runs any more, but a running one comes before one of them",
-                    "end_due w (before 7) ≡ false"),
-                   ("over", "once that one has ended, the switch is over", "end_due w (before 8) ≡ true")],
-    "StopAndReturn": [("locked", "the site went down owing the write, so its copy is locked",
-                       "is_locked w (before 4) s2 x ≡ true"),
-                      ("alone", "and the other site is the only source", "sources w (before 4) x ≡ s1 ∷ []")],
-    "NewAttempt": [("again_due", "the third transaction is the first one's second attempt, and due", "again w (before 5) t3 ≡ true")],
+    "Deadlock": [
+        ("closes", "were the second to wait too, it would wait for itself",
+         "closes_waits w (before 5) t2 (request ((x, pos 0) ∷ []) ((x, pos 2) ∷ []) (1 ∷ [])) ≡ true"),
+        ("woken_first", "once it is gone the first must be answered",
+         "woken w (before 6) ≡ Some (Commit t1 (request ((x, pos 0) ∷ []) ((x, pos 1) ∷ []) (1 ∷ [])) (s1 ∷ []))"),
+        ("not_the_first", "the first may not be aborted in its place",
+         "Allowed w (before 5) (Abort t1 causes.Deadlock (acts.Commit (request ((x, pos 0) ∷ []) ((x, pos 1) ∷ []) (1 ∷ [])))) → ⊥",
+         "λ q. untrue q.0"),
+    ],
+    "LaterCommit": [
+        ("not_by_commits", "in the order of the Commits the report would not be serial",
+         "Serial w (record told { order = t2 ∷ t1 ∷ [] }) → ⊥",
+         "λ q. apart txns_code _ _ refl q.in_order"),
+    ],
+    "LateRead": [
+        ("late", "the younger one's write refuses the read",
+         "verdict w (before 3) (reading t1 1 x) ≡ verdicts.Reject refusals.Late"),
+    ],
+    "InvalidRead": [
+        ("invalid", "the write since its Begin refuses the commit",
+         "verdict w (before 4) (writing t1 1 ((y, pos 1) ∷ [])) ≡ verdicts.Reject refusals.Invalid"),
+    ],
+    "CycleRefused": [
+        ("cycle", "the second commit would come before and behind the first",
+         "verdict w (before 5) (writing t2 2 ((x, pos 2) ∷ [])) ≡ verdicts.Reject refusals.Cycle"),
+    ],
+    "GenericSwitch": [
+        ("nobody", "the switch aborts nobody", "off_list w (before 4) methods.Generic kinds.Valid ≡ []"),
+        ("no_abort", "so its abort may not come",
+         "Allowed w (before 5) (Abort t1 (causes.SwitchOff 1) acts.Nothing) → ⊥",
+         "λ q. q"),
+    ],
+    "ConvertSwitch": [
+        ("first", "the switch aborts the reader", "off_list w (before 4) methods.Convert kinds.Lock ≡ t1 ∷ []"),
+        ("nothing_before", "nothing may come before its abort",
+         "Allowed w (before 5) (Ack t2 s1) → ⊥",
+         "λ q. apart entry_code _ _ refl q"),
+    ],
+    "BothGrant": [
+        ("old", "the old controller would grant the commit",
+         "verdict_of kinds.Valid (before 6) (writing t1 1 ((x, pos 1) ∷ [])) ≡ verdicts.Grant"),
+        ("both", "the two together don't",
+         "verdict w (before 6) (writing t1 1 ((x, pos 1) ∷ [])) ≡ verdicts.Reject refusals.Late"),
+        ("not_by_one", "so it may not come",
+         "Allowed w (before 6) (Commit t1 (request [] ((x, pos 1) ∷ []) (1 ∷ [])) (s1 ∷ [])) → ⊥",
+         "λ q. apart answer_code _ _ refl q.1"),
+    ],
+    "SuffixEnds": [
+        ("not_yet", "no old transaction runs any more, but a running one comes before one of them",
+         "end_due w (before 7) ≡ false"),
+        ("over", "once that one has ended, the switch is over", "end_due w (before 8) ≡ true"),
+        ("no_end_yet", "the switch may not end before that", "Allowed w (before 7) (SwitchEnd 1) → ⊥", "λ q. q"),
+    ],
+    "StopAndReturn": [
+        ("locked", "the site went down owing the write, so its copy is locked", "is_locked w (before 4) s2 x ≡ true"),
+        ("alone", "and the other site is the only source", "sources w (before 4) x ≡ s1 ∷ []"),
+        ("once", "a copy that isn't locked may not be cleared",
+         "Allowed w (before 9) (Clear s2 x 2) → ⊥",
+         "λ q. untrue q"),
+    ],
+    "NewAttempt": [
+        ("again_due", "the third transaction is the first one's second attempt, and due",
+         "again w (before 5) t3 ≡ true"),
+        ("begins_once", "and begins once", "Allowed w (before 6) (Begin t3 s1) → ⊥", "λ q. untrue q.1"),
+    ],
 }
 
 FACT_IMPORTS = """use Rattle.raid_base.specs.declared.entry.Noted.{Noted}
@@ -172,12 +214,12 @@ def legal_example(module, folder):
     shows, make = LEGAL_EXAMPLES[module]
     w, r = make()
     facts = FACTS.get(module, [])
-    out = f"\n-- what was run\nabbrev w : Workload\nw = {workload(w)}\n"
+    out = "\n-- what was run" + workload(w)
     out += f"\n-- what is told of it\nabbrev told : Report\ntold = {report(r)}\n"
-    if facts:
+    if any("before" in fact[2] for fact in facts):
         out += "\n-- the first entries\nabbrev before : ℕ → List Noted\nbefore k = noted (take k told.entries)\n"
-    for name_, comment, statement_ in facts:
-        out += f"\n-- {comment}\n{name_} : {statement_}\n{name_} = refl\n"
+    for fact, says, claim, *proof in facts:
+        out += f"\n-- {says}\n{fact} : {claim}\n{fact} = {proof[0] if proof else 'refl'}\n"
     out += sound_parts(w, r)
     with open(os.path.join(folder, module + ".antt"), "w") as f:
         f.write(f"-- {shows}\n{used(HEAD + FACT_IMPORTS, out)}{out}")
@@ -213,7 +255,7 @@ def letters_heard(letters, **options):
 def heard(shows, *args, **options):
     """An example of letters to the sequencer: its history after them, and what each sends."""
     w, log, es = letters_heard(*args, **options)
-    out = f"\n-- what is run\nabbrev w : Workload\nw = {workload(w)}\n"
+    out = "\n-- what is run" + workload(w)
     lines = [f"({sender}, {letter(l)})" for sender, l, _ in log]
     out += f"\n-- what the sequencer hears: the sender's server number, and the letter\nabbrev heard : List (ℕ × Letter)\nheard ={stacked(lines)}\n"
     out += ("\n-- the sequencer after so many letters\nabbrev after : ℕ → Sequencer\n"
@@ -233,7 +275,7 @@ def run_of(shows, w, schedule):
     world = raid_world.World(w)
     for p in schedule:
         assert world.pick(p)
-    out = f"\n-- what is run\nabbrev w : Workload\nw = {workload(w)}\n"
+    out = "\n-- what is run" + workload(w)
     picks = listed([f"takes {a} {b}" for a, b in schedule])
     out += f"\n-- who takes a letter from whom\nabbrev schedule : List Pick\nschedule = {picks}\n"
     out += f"\n-- what is told at the end\nabbrev told : Report\ntold = {report(world.report())}\n"

@@ -3,6 +3,7 @@ use Rattle.std.specs.Prelude.{◌≡◌, ℕ, ℤ, pos, negsuc, true, false, Lis
 use Rattle.std.proofs.Common.{sym, subst, rules, ◌∙◌}
 use Rattle.std.proofs.lemmas.Bool.{true≢false}
 use Rattle.raid_base.specs.declared.names.Item.{Item}
+use Rattle.raid_base.specs.declared.names.Txn.{Txn}
 use Rattle.raid_base.specs.declared.names.Site.{Site}
 use Rattle.raid_base.specs.declared.request.Request.{Request}
 use Rattle.raid_base.specs.declared.entry.Act.{Act}
@@ -42,6 +43,10 @@ site_code s = s.0 ∷ []
 -- a number
 abbrev pub count_code : ℕ → List ℕ
 count_code n = n ∷ []
+
+-- a list of transactions
+abbrev pub txns_code : List Txn → List ℕ
+txns_code ts = list_code (flat_map (λ t. t.0 ∷ []) ts)
 
 -- a request: its reads, writes and vector
 abbrev pub request_code : Request → List ℕ

@@ -8,12 +8,16 @@ use Rattle.raid_base.specs.declared.verdict.Method.TheVariants as methods
 use Rattle.raid_base.specs.declared.verdict.Structure.TheVariants as structures
 use Rattle.raid_base.specs.declared.report.Report.{Report}
 use Rattle.raid_workload.specs.declared.workload.Workload.{Workload}
+use Rattle.raid_workload.specs.declared.workload.ItemLine.{ItemLine}
+use Rattle.raid_workload.specs.declared.workload.Switch.{Switch}
+use Rattle.raid_workload.specs.declared.workload.Homed.{Homed}
 use Rattle.raid_rules.specs.History.{noted}
-use Rattle.raid_legal.specs.Legal.{Legal}
+use Rattle.raid_legal.specs.Legal.{Legal, Allowed}
 use Rattle.raid_legal.specs.Serial.{Serial, Copies}
 use Rattle.raid_legal.specs.Switched.{Switched, Finished}
 use Rattle.raid_legal.specs.Sound.{Sound}
 use Rattle.raid_legal.proofs.Scene.{◌also◌, t1, t2, t3, x, y, z, s1, request, item_line, switch, home_at, number, load, store, copy_line}
+use Rattle.raid_legal.proofs.Apart.{apart, answer_code}
 use Rattle.raid_base.specs.declared.entry.Noted.{Noted}
 use Rattle.raid_base.specs.declared.verdict.Refusal.TheVariants as refusals
 use Rattle.raid_base.specs.declared.verdict.Verdict.TheVariants as verdicts
@@ -21,26 +25,37 @@ use Rattle.raid_rules.specs.Verdicts.{writing, verdict_of}
 use Rattle.raid_legal.specs.InForce.{verdict}
 
 -- what was run
+abbrev items : List ItemLine
+items =
+    item_line (120 ∷ []) (pos 0) (s1 ∷ []) ∷
+    item_line (121 ∷ []) (pos 0) (s1 ∷ []) ∷
+    item_line (122 ∷ []) (pos 0) (s1 ∷ []) ∷
+    []
+
+abbrev switches : List Switch
+switches =
+    switch kinds.Stamp methods.Suffix 1 ∷
+    []
+
+abbrev programs : List Homed
+programs =
+    home_at s1 (store x (number (pos 1)) ∷ []) ∷
+    home_at s1 (load x 0 ∷ []) ∷
+    home_at s1 (store z (number (pos 1)) ∷ []) ∷
+    []
+
 abbrev w : Workload
 w = record {
   version = 1;
   restarts = 0;
   sites = 1;
   together = 3;
-  items =
-      item_line (120 ∷ []) (pos 0) (s1 ∷ []) ∷
-      item_line (121 ∷ []) (pos 0) (s1 ∷ []) ∷
-      item_line (122 ∷ []) (pos 0) (s1 ∷ []) ∷
-      [];
+  items = items;
   kind = kinds.Valid;
   structure = structures.Native;
-  switches = (switch kinds.Stamp methods.Suffix 1 ∷ []);
+  switches = switches;
   events = [];
-  programs =
-      home_at s1 (store x (number (pos 1)) ∷ []) ∷
-      home_at s1 (load x 0 ∷ []) ∷
-      home_at s1 (store z (number (pos 1)) ∷ []) ∷
-      [];
+  programs = programs;
   kept = refl;
 }
 
@@ -75,6 +90,10 @@ old = refl
 -- the two together don't
 both : verdict w (before 6) (writing t1 1 ((x, pos 1) ∷ [])) ≡ verdicts.Reject refusals.Late
 both = refl
+
+-- so it may not come
+not_by_one : Allowed w (before 6) (Commit t1 (request [] ((x, pos 1) ∷ []) (1 ∷ [])) (s1 ∷ [])) → ⊥
+not_by_one = λ q. apart answer_code _ _ refl q.1
 
 -- its history is legal
 legal : Legal w told.entries

@@ -8,35 +8,50 @@ use Rattle.raid_base.specs.declared.verdict.Method.TheVariants as methods
 use Rattle.raid_base.specs.declared.verdict.Structure.TheVariants as structures
 use Rattle.raid_base.specs.declared.report.Report.{Report}
 use Rattle.raid_workload.specs.declared.workload.Workload.{Workload}
+use Rattle.raid_workload.specs.declared.workload.ItemLine.{ItemLine}
+use Rattle.raid_workload.specs.declared.workload.Switch.{Switch}
+use Rattle.raid_workload.specs.declared.workload.Homed.{Homed}
 use Rattle.raid_rules.specs.History.{noted}
-use Rattle.raid_legal.specs.Legal.{Legal}
+use Rattle.raid_legal.specs.Legal.{Legal, Allowed}
 use Rattle.raid_legal.specs.Serial.{Serial, Copies}
 use Rattle.raid_legal.specs.Switched.{Switched, Finished}
 use Rattle.raid_legal.specs.Sound.{Sound}
 use Rattle.raid_legal.proofs.Scene.{◌also◌, t1, t2, x, y, z, s1, request, item_line, switch, home_at, number, load, store, copy_line}
+use Rattle.raid_legal.proofs.Apart.{apart, entry_code}
 use Rattle.raid_base.specs.declared.entry.Noted.{Noted}
 use Rattle.raid_legal.specs.InForce.{off_list}
 
 -- what was run
+abbrev items : List ItemLine
+items =
+    item_line (120 ∷ []) (pos 0) (s1 ∷ []) ∷
+    item_line (121 ∷ []) (pos 0) (s1 ∷ []) ∷
+    item_line (122 ∷ []) (pos 0) (s1 ∷ []) ∷
+    []
+
+abbrev switches : List Switch
+switches =
+    switch kinds.Lock methods.Convert 1 ∷
+    []
+
+abbrev programs : List Homed
+programs =
+    home_at s1 (load x 0 ∷ store y (number (pos 1)) ∷ []) ∷
+    home_at s1 (store x (number (pos 5)) ∷ []) ∷
+    []
+
 abbrev w : Workload
 w = record {
   version = 1;
   restarts = 0;
   sites = 1;
   together = 3;
-  items =
-      item_line (120 ∷ []) (pos 0) (s1 ∷ []) ∷
-      item_line (121 ∷ []) (pos 0) (s1 ∷ []) ∷
-      item_line (122 ∷ []) (pos 0) (s1 ∷ []) ∷
-      [];
+  items = items;
   kind = kinds.Stamp;
   structure = structures.Native;
-  switches = (switch kinds.Lock methods.Convert 1 ∷ []);
+  switches = switches;
   events = [];
-  programs =
-      home_at s1 (load x 0 ∷ store y (number (pos 1)) ∷ []) ∷
-      home_at s1 (store x (number (pos 5)) ∷ []) ∷
-      [];
+  programs = programs;
   kept = refl;
 }
 
@@ -64,6 +79,10 @@ before k = noted (take k told.entries)
 -- the switch aborts the reader
 first : off_list w (before 4) methods.Convert kinds.Lock ≡ t1 ∷ []
 first = refl
+
+-- nothing may come before its abort
+nothing_before : Allowed w (before 5) (Ack t2 s1) → ⊥
+nothing_before = λ q. apart entry_code _ _ refl q
 
 -- its history is legal
 legal : Legal w told.entries

@@ -1,5 +1,5 @@
 -- A switch to graph testing finds a transaction on a cycle already: its next action is refused.
-use Rattle.std.specs.Prelude.{pos, [], ◌∷◌, refl}
+use Rattle.std.specs.Prelude.{pos, List, [], ◌∷◌, refl}
 use Rattle.raid_base.specs.declared.entry.Entry.TheVariants.{Begin, Read, Commit, Abort, Ack, SwitchOn}
 use Rattle.raid_base.specs.declared.entry.Act.TheVariants as acts
 use Rattle.raid_base.specs.declared.entry.Cause.TheVariants as causes
@@ -8,6 +8,9 @@ use Rattle.raid_base.specs.declared.verdict.Method.TheVariants as methods
 use Rattle.raid_base.specs.declared.verdict.Structure.TheVariants as structures
 use Rattle.raid_base.specs.declared.report.Report.{Report}
 use Rattle.raid_workload.specs.declared.workload.Workload.{Workload}
+use Rattle.raid_workload.specs.declared.workload.ItemLine.{ItemLine}
+use Rattle.raid_workload.specs.declared.workload.Switch.{Switch}
+use Rattle.raid_workload.specs.declared.workload.Homed.{Homed}
 use Rattle.raid_legal.specs.Legal.{Legal}
 use Rattle.raid_legal.specs.Serial.{Serial, Copies}
 use Rattle.raid_legal.specs.Switched.{Switched, Finished}
@@ -15,27 +18,38 @@ use Rattle.raid_legal.specs.Sound.{Sound}
 use Rattle.raid_legal.proofs.Scene.{◌also◌, t1, t2, t3, t4, x, y, z, s1, request, item_line, switch, home_at, number, load, store, copy_line}
 
 -- what was run
+abbrev items : List ItemLine
+items =
+    item_line (120 ∷ []) (pos 0) (s1 ∷ []) ∷
+    item_line (121 ∷ []) (pos 0) (s1 ∷ []) ∷
+    item_line (122 ∷ []) (pos 0) (s1 ∷ []) ∷
+    []
+
+abbrev switches : List Switch
+switches =
+    switch kinds.Graph methods.Generic 2 ∷
+    []
+
+abbrev programs : List Homed
+programs =
+    home_at s1 (load x 0 ∷ load y 1 ∷ []) ∷
+    home_at s1 (store x (number (pos 5)) ∷ store y (number (pos 6)) ∷ []) ∷
+    home_at s1 (store z (number (pos 1)) ∷ []) ∷
+    home_at s1 (load z 0 ∷ []) ∷
+    []
+
 abbrev w : Workload
 w = record {
   version = 1;
   restarts = 0;
   sites = 1;
   together = 3;
-  items =
-      item_line (120 ∷ []) (pos 0) (s1 ∷ []) ∷
-      item_line (121 ∷ []) (pos 0) (s1 ∷ []) ∷
-      item_line (122 ∷ []) (pos 0) (s1 ∷ []) ∷
-      [];
+  items = items;
   kind = kinds.Valid;
   structure = structures.GenericState;
-  switches = (switch kinds.Graph methods.Generic 2 ∷ []);
+  switches = switches;
   events = [];
-  programs =
-      home_at s1 (load x 0 ∷ load y 1 ∷ []) ∷
-      home_at s1 (store x (number (pos 5)) ∷ store y (number (pos 6)) ∷ []) ∷
-      home_at s1 (store z (number (pos 1)) ∷ []) ∷
-      home_at s1 (load z 0 ∷ []) ∷
-      [];
+  programs = programs;
   kept = refl;
 }
 

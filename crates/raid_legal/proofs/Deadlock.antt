@@ -7,36 +7,45 @@ use Rattle.raid_base.specs.declared.verdict.Kind.TheVariants as kinds
 use Rattle.raid_base.specs.declared.verdict.Structure.TheVariants as structures
 use Rattle.raid_base.specs.declared.report.Report.{Report}
 use Rattle.raid_workload.specs.declared.workload.Workload.{Workload}
+use Rattle.raid_workload.specs.declared.workload.ItemLine.{ItemLine}
+use Rattle.raid_workload.specs.declared.workload.Homed.{Homed}
 use Rattle.raid_rules.specs.History.{noted}
-use Rattle.raid_legal.specs.Legal.{Legal}
+use Rattle.raid_legal.specs.Legal.{Legal, Allowed}
 use Rattle.raid_legal.specs.Serial.{Serial, Copies}
 use Rattle.raid_legal.specs.Switched.{Switched, Finished}
 use Rattle.raid_legal.specs.Sound.{Sound}
 use Rattle.raid_legal.proofs.Scene.{◌also◌, t1, t2, x, y, z, s1, request, item_line, home_at, number, load, store, copy_line}
+use Rattle.raid_legal.proofs.Apart.{untrue}
 use Rattle.raid_base.specs.declared.entry.Noted.{Noted}
 use Rattle.raid_legal.specs.Answers.{closes_waits}
 use Rattle.raid_legal.specs.Forced.{woken}
 
 -- what was run
+abbrev items : List ItemLine
+items =
+    item_line (120 ∷ []) (pos 0) (s1 ∷ []) ∷
+    item_line (121 ∷ []) (pos 0) (s1 ∷ []) ∷
+    item_line (122 ∷ []) (pos 0) (s1 ∷ []) ∷
+    []
+
+abbrev programs : List Homed
+programs =
+    home_at s1 (load x 0 ∷ store x (number (pos 1)) ∷ []) ∷
+    home_at s1 (load x 0 ∷ store x (number (pos 2)) ∷ []) ∷
+    []
+
 abbrev w : Workload
 w = record {
   version = 1;
   restarts = 0;
   sites = 1;
   together = 3;
-  items =
-      item_line (120 ∷ []) (pos 0) (s1 ∷ []) ∷
-      item_line (121 ∷ []) (pos 0) (s1 ∷ []) ∷
-      item_line (122 ∷ []) (pos 0) (s1 ∷ []) ∷
-      [];
+  items = items;
   kind = kinds.Lock;
   structure = structures.Native;
   switches = [];
   events = [];
-  programs =
-      home_at s1 (load x 0 ∷ store x (number (pos 1)) ∷ []) ∷
-      home_at s1 (load x 0 ∷ store x (number (pos 2)) ∷ []) ∷
-      [];
+  programs = programs;
   kept = refl;
 }
 
@@ -69,6 +78,10 @@ closes = refl
 -- once it is gone the first must be answered
 woken_first : woken w (before 6) ≡ Some (Commit t1 (request ((x, pos 0) ∷ []) ((x, pos 1) ∷ []) (1 ∷ [])) (s1 ∷ []))
 woken_first = refl
+
+-- the first may not be aborted in its place
+not_the_first : Allowed w (before 5) (Abort t1 causes.Deadlock (acts.Commit (request ((x, pos 0) ∷ []) ((x, pos 1) ∷ []) (1 ∷ [])))) → ⊥
+not_the_first = λ q. untrue q.0
 
 -- its history is legal
 legal : Legal w told.entries

@@ -8,8 +8,11 @@ use Rattle.raid_base.specs.declared.verdict.Method.TheVariants as methods
 use Rattle.raid_base.specs.declared.verdict.Structure.TheVariants as structures
 use Rattle.raid_base.specs.declared.report.Report.{Report}
 use Rattle.raid_workload.specs.declared.workload.Workload.{Workload}
+use Rattle.raid_workload.specs.declared.workload.ItemLine.{ItemLine}
+use Rattle.raid_workload.specs.declared.workload.Switch.{Switch}
+use Rattle.raid_workload.specs.declared.workload.Homed.{Homed}
 use Rattle.raid_rules.specs.History.{noted}
-use Rattle.raid_legal.specs.Legal.{Legal}
+use Rattle.raid_legal.specs.Legal.{Legal, Allowed}
 use Rattle.raid_legal.specs.Serial.{Serial, Copies}
 use Rattle.raid_legal.specs.Switched.{Switched, Finished}
 use Rattle.raid_legal.specs.Sound.{Sound}
@@ -18,25 +21,36 @@ use Rattle.raid_base.specs.declared.entry.Noted.{Noted}
 use Rattle.raid_legal.specs.InForce.{off_list}
 
 -- what was run
+abbrev items : List ItemLine
+items =
+    item_line (120 ∷ []) (pos 0) (s1 ∷ []) ∷
+    item_line (121 ∷ []) (pos 0) (s1 ∷ []) ∷
+    item_line (122 ∷ []) (pos 0) (s1 ∷ []) ∷
+    []
+
+abbrev switches : List Switch
+switches =
+    switch kinds.Valid methods.Generic 1 ∷
+    []
+
+abbrev programs : List Homed
+programs =
+    home_at s1 (load x 0 ∷ store y (number (pos 1)) ∷ []) ∷
+    home_at s1 (store x (number (pos 5)) ∷ []) ∷
+    []
+
 abbrev w : Workload
 w = record {
   version = 1;
   restarts = 0;
   sites = 1;
   together = 3;
-  items =
-      item_line (120 ∷ []) (pos 0) (s1 ∷ []) ∷
-      item_line (121 ∷ []) (pos 0) (s1 ∷ []) ∷
-      item_line (122 ∷ []) (pos 0) (s1 ∷ []) ∷
-      [];
+  items = items;
   kind = kinds.Stamp;
   structure = structures.GenericState;
-  switches = (switch kinds.Valid methods.Generic 1 ∷ []);
+  switches = switches;
   events = [];
-  programs =
-      home_at s1 (load x 0 ∷ store y (number (pos 1)) ∷ []) ∷
-      home_at s1 (store x (number (pos 5)) ∷ []) ∷
-      [];
+  programs = programs;
   kept = refl;
 }
 
@@ -64,6 +78,10 @@ before k = noted (take k told.entries)
 -- the switch aborts nobody
 nobody : off_list w (before 4) methods.Generic kinds.Valid ≡ []
 nobody = refl
+
+-- so its abort may not come
+no_abort : Allowed w (before 5) (Abort t1 (causes.SwitchOff 1) acts.Nothing) → ⊥
+no_abort = λ q. q
 
 -- its history is legal
 legal : Legal w told.entries

@@ -1,36 +1,45 @@
 -- Timestamps: a reader commits after the writer of what it read, and stands before it in the serial order.
-use Rattle.std.specs.Prelude.{pos, [], ◌∷◌, refl}
+use Rattle.std.specs.Prelude.{pos, List, [], ◌∷◌, refl}
 use Rattle.raid_base.specs.declared.entry.Entry.TheVariants.{Begin, Read, Commit, Ack}
 use Rattle.raid_base.specs.declared.verdict.Kind.TheVariants as kinds
 use Rattle.raid_base.specs.declared.verdict.Structure.TheVariants as structures
 use Rattle.raid_base.specs.declared.report.Report.{Report}
 use Rattle.raid_workload.specs.declared.workload.Workload.{Workload}
+use Rattle.raid_workload.specs.declared.workload.ItemLine.{ItemLine}
+use Rattle.raid_workload.specs.declared.workload.Homed.{Homed}
 use Rattle.raid_legal.specs.Legal.{Legal}
 use Rattle.raid_legal.specs.Serial.{Serial, Copies}
 use Rattle.raid_legal.specs.Switched.{Switched, Finished}
 use Rattle.raid_legal.specs.Sound.{Sound}
 use Rattle.raid_legal.proofs.Scene.{◌also◌, t1, t2, x, y, z, s1, request, item_line, home_at, number, load, store, copy_line}
+use Rattle.raid_legal.proofs.Apart.{apart, txns_code}
 
 -- what was run
+abbrev items : List ItemLine
+items =
+    item_line (120 ∷ []) (pos 0) (s1 ∷ []) ∷
+    item_line (121 ∷ []) (pos 0) (s1 ∷ []) ∷
+    item_line (122 ∷ []) (pos 0) (s1 ∷ []) ∷
+    []
+
+abbrev programs : List Homed
+programs =
+    home_at s1 (load x 0 ∷ store y (number (pos 1)) ∷ []) ∷
+    home_at s1 (store x (number (pos 5)) ∷ []) ∷
+    []
+
 abbrev w : Workload
 w = record {
   version = 1;
   restarts = 0;
   sites = 1;
   together = 3;
-  items =
-      item_line (120 ∷ []) (pos 0) (s1 ∷ []) ∷
-      item_line (121 ∷ []) (pos 0) (s1 ∷ []) ∷
-      item_line (122 ∷ []) (pos 0) (s1 ∷ []) ∷
-      [];
+  items = items;
   kind = kinds.Stamp;
   structure = structures.Native;
   switches = [];
   events = [];
-  programs =
-      home_at s1 (load x 0 ∷ store y (number (pos 1)) ∷ []) ∷
-      home_at s1 (store x (number (pos 5)) ∷ []) ∷
-      [];
+  programs = programs;
   kept = refl;
 }
 
@@ -50,6 +59,10 @@ told = record {
   finals = ((x, pos 5) ∷ (y, pos 1) ∷ (z, pos 0) ∷ []);
   copies = (copy_line s1 x (pos 5) 4 ∷ copy_line s1 y (pos 1) 5 ∷ copy_line s1 z (pos 0) 0 ∷ []);
 }
+
+-- in the order of the Commits the report would not be serial
+not_by_commits : Serial w (record told { order = t2 ∷ t1 ∷ [] }) → ⊥
+not_by_commits = λ q. apart txns_code _ _ refl q.in_order
 
 -- its history is legal
 legal : Legal w told.entries

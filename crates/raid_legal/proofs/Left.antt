@@ -1,5 +1,5 @@
 -- How many entries can still be forced one after the other: each forced entry leaves fewer.
-use Rattle.std.proofs.Common.{◌≡◌, ℕ, ◌+◌, ◌-◌, ◌*◌, ◌<◌, ◌≤◌, ◌==◌, nat_le, Bool, true, false, not, ◌&&◌, ◌||◌, List, [], ◌∷◌, ◌++◌, length, Option, Some, None, if◌then◌else◌, arith, sym, subst, ap, ◌∙◌, refl, append-nil, append_assoc}
+use Rattle.std.proofs.Common.{◌≡◌, ℕ, ◌+◌, ◌-◌, ◌*◌, ◌<◌, ◌≤◌, nat_le, Bool, true, false, not, ◌&&◌, ◌||◌, List, [], ◌∷◌, ◌++◌, length, Option, Some, None, if◌then◌else◌, arith, sym, subst, ap, ◌∙◌, refl, append-nil, append_assoc}
 use Rattle.std.specs.Prelude.{filter, filter_map, find, slice_get, option_map, option_and_then, is_some}
 use Rattle.std.specs.List.{list_any, cons_option}
 use Rattle.std.specs.Option.{option_map_or}
@@ -8,8 +8,6 @@ use Rattle.std.proofs.lemmas.Bool.{true≢false, or_left, or_right}
 use Rattle.std.proofs.lemmas.Grind.{common_steps}
 use Rattle.raid_base.specs.declared.names.Txn.{Txn}
 use Rattle.raid_base.specs.declared.request.Request.{Request}
-use Rattle.raid_base.specs.declared.names.Site.{Site}
-use Rattle.raid_base.specs.declared.entry.Act.{Act}
 use Rattle.raid_base.specs.declared.entry.Cause.{Cause}
 use Rattle.raid_base.specs.declared.entry.Entry.{Entry}
 use Rattle.raid_base.specs.declared.entry.Entry.TheVariants.{Begin, Commit, Abort, SwitchOn, SwitchEnd, Wait}
@@ -165,6 +163,7 @@ kept_passes f g (x ∷ xs) y e = passes_step (kept_passes f g xs y) (g x) refl e
   first_step : (find f (filter g xs) ≡ Some y → g y ≡ true) → g x ≡ true → (c : Bool) → (if c then Some x else find f (filter g xs)) ≡ Some y → g y ≡ true
   first_step rest q true e = subst (λ z. g z ≡ true) (some_is _ _ e) q
   first_step rest q false e = rest e
+
   passes_step : (find f (filter g xs) ≡ Some y → g y ≡ true) → (b : Bool) → g x ≡ b → find f (if b then x ∷ filter g xs else filter g xs) ≡ Some y → g y ≡ true
   passes_step rest true q e = first_step rest q (f x) e
   passes_step rest false q e = rest e
@@ -267,6 +266,7 @@ begin_known w p (Begin u s) t a q = subst (λ v. has_txn (txns w) v ≡ true) (s
   first_part : (a b c d : Bool) → (a && b && c && d) ≡ true → a ≡ true
   first_part true b c d q = refl
   first_part false b c d q = absurd (true≢false (sym q))
+
   known_step : (o : Option Entry) → forced w p ≡ o → Comes w p (Begin u s) o → has_txn (txns w) u ≡ true
   known_step None here c = first_part (has_txn (txns w) u) (not (has_begun p u)) (is_up w p (home w u)) (option_map_or (is_txn u) (next_of w p (home w u)) false || again w p u) c.1
   known_step (Some must) here c = absurd (subst (Compels w p) (sym c) (forced_compels w p must here))
@@ -278,10 +278,10 @@ begun_known w before [] l h t q = h t (subst (λ p. has_begun p t ≡ true) (app
 begun_known w before (n ∷ ns) l h t q =
     begun_known w (before ++ n ∷ []) ns l.1 (λ u here. either u (has_begun before u) (is_begin_of u n.entry) refl refl (sym (has_begun_push before n u) ∙ here)) t
     (subst (λ p. has_begun p t ≡ true) (sym (append_assoc before (n ∷ []) ns)) q) where
-  either : (u : Txn) (a b : Bool) → has_begun before u ≡ a → is_begin_of u n.entry ≡ b → (has_begun before u || is_begin_of u n.entry) ≡ true → has_txn (txns w) u ≡ true
-  either u true b here begins q = h u here
-  either u false true here begins q = begin_known w before n.entry u l.0 begins
-  either u false false here begins q = absurd (true≢false (sym q ∙ ap (λ c. c || is_begin_of u n.entry) here ∙ begins))
+      either : (u : Txn) (a b : Bool) → has_begun before u ≡ a → is_begin_of u n.entry ≡ b → (has_begun before u || is_begin_of u n.entry) ≡ true → has_txn (txns w) u ≡ true
+      either u true b here begins q = h u here
+      either u false true here begins q = begin_known w before n.entry u l.0 begins
+      either u false false here begins q = absurd (true≢false (sym q ∙ ap (λ c. c || is_begin_of u n.entry) here ∙ begins))
 
 pub legal_known : (w : Workload) (h : List Entry) → Legal w h → Known w (noted h)
 legal_known w h l t runs = begun_known w [] (noted h) l (λ u q. absurd (true≢false (sym q))) t (started (has_begun (noted h) t) (not (has_ended (noted h) t)) runs) where

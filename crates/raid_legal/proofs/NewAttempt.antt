@@ -8,35 +8,44 @@ use Rattle.raid_base.specs.declared.verdict.Structure.TheVariants as structures
 use Rattle.raid_base.specs.declared.report.Report.{Report}
 use Rattle.raid_program.specs.declared.program.Term.TheVariants as terms
 use Rattle.raid_workload.specs.declared.workload.Workload.{Workload}
+use Rattle.raid_workload.specs.declared.workload.ItemLine.{ItemLine}
+use Rattle.raid_workload.specs.declared.workload.Homed.{Homed}
 use Rattle.raid_rules.specs.History.{noted}
-use Rattle.raid_legal.specs.Legal.{Legal}
+use Rattle.raid_legal.specs.Legal.{Legal, Allowed}
 use Rattle.raid_legal.specs.Serial.{Serial, Copies}
 use Rattle.raid_legal.specs.Switched.{Switched, Finished}
 use Rattle.raid_legal.specs.Sound.{Sound}
 use Rattle.raid_legal.proofs.Scene.{◌also◌, t1, t2, t3, x, y, z, s1, request, item_line, home_at, sum, number, load, store, copy_line}
+use Rattle.raid_legal.proofs.Apart.{untrue}
 use Rattle.raid_base.specs.declared.entry.Noted.{Noted}
 use Rattle.raid_legal.specs.Seen.{again}
 
 -- what was run
+abbrev items : List ItemLine
+items =
+    item_line (120 ∷ []) (pos 0) (s1 ∷ []) ∷
+    item_line (121 ∷ []) (pos 0) (s1 ∷ []) ∷
+    item_line (122 ∷ []) (pos 0) (s1 ∷ []) ∷
+    []
+
+abbrev programs : List Homed
+programs =
+    home_at s1 (load x 0 ∷ store y (sum (terms.Reg 0) ((true, (terms.Value (pos 1))) ∷ [])) ∷ []) ∷
+    home_at s1 (store x (number (pos 5)) ∷ []) ∷
+    []
+
 abbrev w : Workload
 w = record {
   version = 2;
   restarts = 1;
   sites = 1;
   together = 3;
-  items =
-      item_line (120 ∷ []) (pos 0) (s1 ∷ []) ∷
-      item_line (121 ∷ []) (pos 0) (s1 ∷ []) ∷
-      item_line (122 ∷ []) (pos 0) (s1 ∷ []) ∷
-      [];
+  items = items;
   kind = kinds.Valid;
   structure = structures.Native;
   switches = [];
   events = [];
-  programs =
-      home_at s1 (load x 0 ∷ store y (sum (terms.Reg 0) ((true, (terms.Value (pos 1))) ∷ [])) ∷ []) ∷
-      home_at s1 (store x (number (pos 5)) ∷ []) ∷
-      [];
+  programs = programs;
   kept = refl;
 }
 
@@ -67,6 +76,10 @@ before k = noted (take k told.entries)
 -- the third transaction is the first one's second attempt, and due
 again_due : again w (before 5) t3 ≡ true
 again_due = refl
+
+-- and begins once
+begins_once : Allowed w (before 6) (Begin t3 s1) → ⊥
+begins_once = λ q. untrue q.1
 
 -- its history is legal
 legal : Legal w told.entries

@@ -1,11 +1,13 @@
 -- A transaction reads an item, adds to it, commits, and its site acknowledges.
-use Rattle.std.specs.Prelude.{pos, true, [], ◌∷◌, refl}
+use Rattle.std.specs.Prelude.{pos, true, List, [], ◌∷◌, refl}
 use Rattle.raid_base.specs.declared.entry.Entry.TheVariants.{Begin, Read, Commit, Ack}
 use Rattle.raid_base.specs.declared.verdict.Kind.TheVariants as kinds
 use Rattle.raid_base.specs.declared.verdict.Structure.TheVariants as structures
 use Rattle.raid_base.specs.declared.report.Report.{Report}
 use Rattle.raid_program.specs.declared.program.Term.TheVariants as terms
 use Rattle.raid_workload.specs.declared.workload.Workload.{Workload}
+use Rattle.raid_workload.specs.declared.workload.ItemLine.{ItemLine}
+use Rattle.raid_workload.specs.declared.workload.Homed.{Homed}
 use Rattle.raid_legal.specs.Legal.{Legal}
 use Rattle.raid_legal.specs.Serial.{Serial, Copies}
 use Rattle.raid_legal.specs.Switched.{Switched, Finished}
@@ -13,22 +15,28 @@ use Rattle.raid_legal.specs.Sound.{Sound}
 use Rattle.raid_legal.proofs.Scene.{◌also◌, t1, x, s1, request, item_line, home_at, sum, load, store, copy_line}
 
 -- what was run
+abbrev items : List ItemLine
+items =
+    item_line (120 ∷ []) (pos 100) (s1 ∷ []) ∷
+    []
+
+abbrev programs : List Homed
+programs =
+    home_at s1 (load x 0 ∷ store x (sum (terms.Reg 0) ((true, (terms.Value (pos 5))) ∷ [])) ∷ []) ∷
+    []
+
 abbrev w : Workload
 w = record {
   version = 1;
   restarts = 0;
   sites = 1;
   together = 1;
-  items =
-      item_line (120 ∷ []) (pos 100) (s1 ∷ []) ∷
-      [];
+  items = items;
   kind = kinds.Lock;
   structure = structures.Native;
   switches = [];
   events = [];
-  programs =
-      home_at s1 (load x 0 ∷ store x (sum (terms.Reg 0) ((true, (terms.Value (pos 5))) ∷ [])) ∷ []) ∷
-      [];
+  programs = programs;
   kept = refl;
 }
 

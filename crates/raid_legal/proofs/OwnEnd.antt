@@ -1,5 +1,5 @@
 -- A program stops itself: its transaction is aborted with what it had read.
-use Rattle.std.specs.Prelude.{pos, [], ◌∷◌, refl}
+use Rattle.std.specs.Prelude.{pos, List, [], ◌∷◌, refl}
 use Rattle.raid_base.specs.declared.entry.Entry.TheVariants.{Begin, Read, Abort}
 use Rattle.raid_base.specs.declared.entry.Act.TheVariants as acts
 use Rattle.raid_base.specs.declared.entry.Cause.TheVariants as causes
@@ -8,6 +8,8 @@ use Rattle.raid_base.specs.declared.verdict.Structure.TheVariants as structures
 use Rattle.raid_base.specs.declared.report.Report.{Report}
 use Rattle.raid_program.specs.declared.program.Term.TheVariants as terms
 use Rattle.raid_workload.specs.declared.workload.Workload.{Workload}
+use Rattle.raid_workload.specs.declared.workload.ItemLine.{ItemLine}
+use Rattle.raid_workload.specs.declared.workload.Homed.{Homed}
 use Rattle.raid_legal.specs.Legal.{Legal}
 use Rattle.raid_legal.specs.Serial.{Serial, Copies}
 use Rattle.raid_legal.specs.Switched.{Switched, Finished}
@@ -15,22 +17,28 @@ use Rattle.raid_legal.specs.Sound.{Sound}
 use Rattle.raid_legal.proofs.Scene.{◌also◌, t1, x, s1, item_line, home_at, sum, number, load, stop_if, copy_line}
 
 -- what was run
+abbrev items : List ItemLine
+items =
+    item_line (120 ∷ []) (pos 100) (s1 ∷ []) ∷
+    []
+
+abbrev programs : List Homed
+programs =
+    home_at s1 (load x 0 ∷ stop_if (sum (terms.Reg 0) []) (number (pos 200)) ∷ []) ∷
+    []
+
 abbrev w : Workload
 w = record {
   version = 1;
   restarts = 0;
   sites = 1;
   together = 1;
-  items =
-      item_line (120 ∷ []) (pos 100) (s1 ∷ []) ∷
-      [];
+  items = items;
   kind = kinds.Lock;
   structure = structures.Native;
   switches = [];
   events = [];
-  programs =
-      home_at s1 (load x 0 ∷ stop_if (sum (terms.Reg 0) []) (number (pos 200)) ∷ []) ∷
-      [];
+  programs = programs;
   kept = refl;
 }
 

@@ -5,33 +5,49 @@ use Rattle.raid_base.specs.declared.verdict.Kind.TheVariants as kinds
 use Rattle.raid_base.specs.declared.verdict.Structure.TheVariants as structures
 use Rattle.raid_base.specs.declared.report.Report.{Report}
 use Rattle.raid_workload.specs.declared.workload.Workload.{Workload}
+use Rattle.raid_workload.specs.declared.workload.ItemLine.{ItemLine}
+use Rattle.raid_workload.specs.declared.workload.Event.{Event}
+use Rattle.raid_workload.specs.declared.workload.Homed.{Homed}
 use Rattle.raid_rules.specs.History.{noted}
-use Rattle.raid_legal.specs.Legal.{Legal}
+use Rattle.raid_legal.specs.Legal.{Legal, Allowed}
 use Rattle.raid_legal.specs.Serial.{Serial, Copies}
 use Rattle.raid_legal.specs.Switched.{Switched, Finished}
 use Rattle.raid_legal.specs.Sound.{Sound}
-use Rattle.raid_legal.proofs.Scene.{◌also◌, site, t1, t2, x, s1, s2, request, item_line, stops, returns, home_at, number, load, store, copy_line}
+use Rattle.raid_legal.proofs.Scene.{◌also◌, t1, t2, x, s1, s2, request, item_line, stops, returns, home_at, number, load, store, copy_line}
+use Rattle.raid_legal.proofs.Apart.{untrue}
 use Rattle.raid_base.specs.declared.entry.Noted.{Noted}
 use Rattle.raid_legal.specs.Seen.{is_locked, sources}
 
 -- what was run
+abbrev items : List ItemLine
+items =
+    item_line (120 ∷ []) (pos 0) (s1 ∷ s2 ∷ []) ∷
+    []
+
+abbrev events : List Event
+events =
+    stops s2 1 ∷
+    returns s2 2 ∷
+    []
+
+abbrev programs : List Homed
+programs =
+    home_at s1 (store x (number (pos 1)) ∷ []) ∷
+    home_at s1 (load x 0 ∷ []) ∷
+    []
+
 abbrev w : Workload
 w = record {
   version = 1;
   restarts = 0;
   sites = 2;
   together = 1;
-  items =
-      item_line (120 ∷ []) (pos 0) (s1 ∷ s2 ∷ []) ∷
-      [];
+  items = items;
   kind = kinds.Lock;
   structure = structures.Native;
   switches = [];
-  events = (stops s2 1 ∷ returns s2 2 ∷ []);
-  programs =
-      home_at s1 (store x (number (pos 1)) ∷ []) ∷
-      home_at s1 (load x 0 ∷ []) ∷
-      [];
+  events = events;
+  programs = programs;
   kept = refl;
 }
 
@@ -65,6 +81,10 @@ locked = refl
 -- and the other site is the only source
 alone : sources w (before 4) x ≡ s1 ∷ []
 alone = refl
+
+-- a copy that isn't locked may not be cleared
+once : Allowed w (before 9) (Clear s2 x 2) → ⊥
+once = λ q. untrue q
 
 -- its history is legal
 legal : Legal w told.entries

@@ -8,8 +8,11 @@ use Rattle.raid_base.specs.declared.verdict.Method.TheVariants as methods
 use Rattle.raid_base.specs.declared.verdict.Structure.TheVariants as structures
 use Rattle.raid_base.specs.declared.report.Report.{Report}
 use Rattle.raid_workload.specs.declared.workload.Workload.{Workload}
+use Rattle.raid_workload.specs.declared.workload.ItemLine.{ItemLine}
+use Rattle.raid_workload.specs.declared.workload.Switch.{Switch}
+use Rattle.raid_workload.specs.declared.workload.Homed.{Homed}
 use Rattle.raid_rules.specs.History.{noted}
-use Rattle.raid_legal.specs.Legal.{Legal}
+use Rattle.raid_legal.specs.Legal.{Legal, Allowed}
 use Rattle.raid_legal.specs.Serial.{Serial, Copies}
 use Rattle.raid_legal.specs.Switched.{Switched, Finished}
 use Rattle.raid_legal.specs.Sound.{Sound}
@@ -18,26 +21,37 @@ use Rattle.raid_base.specs.declared.entry.Noted.{Noted}
 use Rattle.raid_legal.specs.InForce.{end_due}
 
 -- what was run
+abbrev items : List ItemLine
+items =
+    item_line (120 ∷ []) (pos 0) (s1 ∷ []) ∷
+    item_line (121 ∷ []) (pos 0) (s1 ∷ []) ∷
+    item_line (122 ∷ []) (pos 0) (s1 ∷ []) ∷
+    []
+
+abbrev switches : List Switch
+switches =
+    switch kinds.Graph methods.Suffix 1 ∷
+    []
+
+abbrev programs : List Homed
+programs =
+    home_at s1 (store x (number (pos 1)) ∷ []) ∷
+    home_at s1 (store z (number (pos 1)) ∷ []) ∷
+    home_at s1 (load x 0 ∷ store y (number (pos 2)) ∷ []) ∷
+    []
+
 abbrev w : Workload
 w = record {
   version = 1;
   restarts = 0;
   sites = 1;
   together = 3;
-  items =
-      item_line (120 ∷ []) (pos 0) (s1 ∷ []) ∷
-      item_line (121 ∷ []) (pos 0) (s1 ∷ []) ∷
-      item_line (122 ∷ []) (pos 0) (s1 ∷ []) ∷
-      [];
+  items = items;
   kind = kinds.Valid;
   structure = structures.Native;
-  switches = (switch kinds.Graph methods.Suffix 1 ∷ []);
+  switches = switches;
   events = [];
-  programs =
-      home_at s1 (store x (number (pos 1)) ∷ []) ∷
-      home_at s1 (store z (number (pos 1)) ∷ []) ∷
-      home_at s1 (load x 0 ∷ store y (number (pos 2)) ∷ []) ∷
-      [];
+  programs = programs;
   kept = refl;
 }
 
@@ -73,6 +87,10 @@ not_yet = refl
 -- once that one has ended, the switch is over
 over : end_due w (before 8) ≡ true
 over = refl
+
+-- the switch may not end before that
+no_end_yet : Allowed w (before 7) (SwitchEnd 1) → ⊥
+no_end_yet = λ q. q
 
 -- its history is legal
 legal : Legal w told.entries

@@ -33,7 +33,7 @@ cause_of Late = causes.Late
 cause_of Invalid = causes.Invalid
 cause_of Cycle = causes.Cycle
 
--- the entry that answers a read, given the site to serve it, if there is one, and the verdict
+-- the entry that answers a read, given the site to serve it, if there is one, and the verdict; no kind makes a read wait
 abbrev pub served : Txn → Item → Option Site → Verdict → Entry
 served t x None v = Abort t causes.NoCopy (acts.Read x)
 served t x (Some s) (verdicts.Reject why) = Abort t (cause_of why) (acts.Read x)
@@ -73,7 +73,8 @@ wait_edges w p rs = flat_map (λ r. map (λ q. (r.0, q.0)) (filter (λ q. blocks
 abbrev pub closes_waits : Workload → List Noted → Txn → Request → Bool
 closes_waits w p t request = leads (wait_edges w p (waiting p ++ (t, request) ∷ [])) t t
 
--- what becomes of a request that can't be granted yet: nothing new where it waits already; an abort where it would close a cycle of waits; else it waits
+-- what becomes of a request that can't be granted yet: nothing new where it waits already; an abort where it would close a cycle of
+-- waits; else it waits
 abbrev pub waits : Workload → List Noted → Txn → Request → Option Entry
 waits w p t request = if is_waiting p t then None else if closes_waits w p t request then Some (Abort t causes.Deadlock (acts.Commit request)) else Some (Wait t request)
 

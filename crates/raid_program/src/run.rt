@@ -6,9 +6,9 @@ ghost use Rattle.raid_program.specs.Form.{is_formed, is_expr};
 ghost use Rattle.raid_program.specs.Run.{put, known, given, asks_for, outcome_of};
 ghost use Rattle.raid_program.specs.Course.{IsOf, progress, Passes, Stops};
 
-use crate::program::{Expr, Program, Statement, Want};
+use crate::program::{Expr, Outcome, Program, Statement, Want};
 use crate::sum::Registers;
-use raid_base::{Item, NoMemory};
+use raid_base::{Item, NoMemory, Pairs};
 use std::alloc::Global;
 use std::marker::Model;
 
@@ -66,6 +66,17 @@ fn put(pairs: &mut Vec<(Item, i64)>, item: Item, value: i64)
         }
     }
     pairs.push_reserved((item, value));
+}
+
+/// The pairs as a list of their own.
+fn pairs_of(alloc: Global, pairs: &[(Item, i64)]) -> Result<Pairs, NoMemory>
+    ensures { IfOk result (λ copied. copied ≡ pairs.now) }
+{
+    let mut copied = Pairs::new(alloc);
+    for pair in pairs {
+        copied.push(*pair)?;
+    }
+    Ok(copied)
 }
 
 impl Run {
@@ -221,5 +232,14 @@ impl Run {
         ensures { result.now ≡ self.now.writes }
     {
         self.writes.as_slice()
+    }
+
+    /// The outcome of a run that ended so, with reads and writes of its own.
+    pub fn outcome(&self, alloc: Global, end: Want) -> Result<Outcome, NoMemory>
+        ensures { IfOk result (λ o. o ≡ record { end = end; reads = self.now.reads; writes = self.now.writes }) }
+    {
+        let reads = pairs_of(alloc, self.reads.as_slice())?;
+        let writes = pairs_of(alloc, self.writes.as_slice())?;
+        Ok(Outcome { end, reads, writes })
     }
 }

@@ -62,17 +62,6 @@ fn set_all(held: &mut Vec<Option<i64>>, pairs: &[(Item, i64)])
     }
 }
 
-/// The pairs as a list of their own.
-fn pairs_of(alloc: Global, pairs: &[(Item, i64)]) -> Result<Pairs, NoMemory>
-    ensures { IfOk result (λ copied. copied ≡ pairs.now) }
-{
-    let mut copied = Pairs::new(alloc);
-    for pair in pairs {
-        copied.push(*pair)?;
-    }
-    Ok(copied)
-}
-
 impl Table {
     /// The table in which each item of the pairs has the value of its first pair, and no other item has one.
     pub fn new(alloc: Global, pairs: &Pairs) -> Result<Table, NoMemory>
@@ -123,12 +112,11 @@ impl Table {
     {
         let mut run = Run::new(alloc, program)?;
         let end = self.finish(&mut run, program);
-        let reads = pairs_of(alloc, run.reads())?;
-        let writes = pairs_of(alloc, run.writes())?;
+        let outcome = run.outcome(alloc, end)?;
         if let Want::Done = end {
             self.apply(run.writes())?;
         }
-        Ok(Outcome { end, reads, writes })
+        Ok(outcome)
     }
 
     /// The item's value; None exactly where it has none.

@@ -21,13 +21,13 @@ cycle_path R [] c = absurd c
 cycle_path R (t ∷ ts) c = (t, chain_path t t ts c)
 
 -- a chain of one relation is one of a weaker
-pub chain_map : {R S : Txn → Txn → Type 0} → ((t u : Txn) → R t u → S t u) → (t : Txn) (ts : List Txn) → IsChain R t ts → IsChain S t ts
-chain_map h t [] c = c
-chain_map h t (u ∷ us) c = (h t u c.0, chain_map h u us c.1)
+pub chain_map : (R S : Txn → Txn → Type 0) → ((t u : Txn) → R t u → S t u) → (t : Txn) (ts : List Txn) → IsChain R t ts → IsChain S t ts
+chain_map R S h t [] c = c
+chain_map R S h t (u ∷ us) c = (h t u c.0, chain_map R S h u us c.1)
 
-pub cycle_map : {R S : Txn → Txn → Type 0} → ((t u : Txn) → R t u → S t u) → (ts : List Txn) → IsCycle R ts → IsCycle S ts
-cycle_map h [] c = c
-cycle_map h (t ∷ ts) c = chain_map h t (ts ++ t ∷ []) c
+pub cycle_map : (R S : Txn → Txn → Type 0) → ((t u : Txn) → R t u → S t u) → (ts : List Txn) → IsCycle R ts → IsCycle S ts
+cycle_map R S h [] c = c
+cycle_map R S h (t ∷ ts) c = chain_map R S h t (ts ++ t ∷ []) c
 
 -- a chain from t, cut off where it comes to p, goes on to where the relation leads from p
 pub back_from : (R : Txn → Txn → Type 0) (p z : Txn) → R p z → (t : Txn) (ts : List Txn) → IsChain R t ts → has_txn (t ∷ ts) p ≡ true → IsChain R t ((if is_txn p t then [] else up_to p ts) ++ z ∷ [])
@@ -61,3 +61,19 @@ module _ (R : Txn → Txn → Type 0) (all : List Txn) (pred : (u : Txn) → has
 
   pub stuck : (t : Txn) → has_txn all t ≡ true → (z : Txn) × Path R z z
   stuck t h = walk (suc (many (out (t ∷ [])) all)) t [] (omega arith) tt h
+
+-- a walk back: from its first along the edges to where it began
+pub record IsWalk (R : Txn → Txn → Type 0) (walk : List Txn) (t : Txn) : Type 0 where
+  pub rest : List Txn
+  pub is : walk ≡ t ∷ rest
+  pub chain : IsChain R t rest
+
+pub walk_back : (R : Txn → Txn → Type 0) (walk : List Txn) (p t : Txn) → IsWalk R walk t → has_txn walk p ≡ true → R p t → IsCycle R (up_to p walk)
+walk_back R walk p t w h r = subst (λ ts. IsCycle R (up_to p ts)) (sym w.is) (is_back R p t w.rest w.chain (subst (λ ts. has_txn ts p ≡ true) w.is h) r)
+
+pub walk_on : (R : Txn → Txn → Type 0) (walk : List Txn) (p t : Txn) → IsWalk R walk t → R p t → IsWalk R (p ∷ walk) p
+walk_on R walk p t w r = record { rest = walk; is = refl; chain = subst (IsChain R p) (sym w.is) (r, w.chain) }
+
+-- with each step fewer are out of it
+pub walk_less : (walk all : List Txn) (p : Txn) → has_txn all p ≡ true → has_txn walk p ≡ false → many (out (p ∷ walk)) all < many (out walk) all
+walk_less walk all p i h = many_less (out walk) (out (p ∷ walk)) (out_cons walk p) p (ap not h) (ap not (or_left _ _ (eq_self p.0 p.0 refl))) all i

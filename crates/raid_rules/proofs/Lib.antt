@@ -1,9 +1,15 @@
 pub mod Acts
+pub mod Backward
 pub mod Cycle
 pub mod Edges
+pub mod Last
 pub mod Listing
 pub mod Opening
+pub mod Paths
+pub mod Places
 pub mod Push
 pub mod Reach
 pub mod Sources
 pub mod Txns
+pub mod ViewsOf
+pub mod Waits

@@ -13,13 +13,15 @@ use Rattle.raid_base.specs.declared.entry.Noted.{Noted}
 use Rattle.raid_base.specs.Names.{is_txn, has_txn}
 use Rattle.raid_rules.specs.Entries.{is_commit_of}
 use Rattle.raid_rules.specs.History.{has_committed}
-use Rattle.raid_rules.specs.Conflict.{Path, one, cons, edges, commits, committed, commit_of, is_next, list_next, listing, serial_order}
-use Rattle.raid_rules.specs.Committed.{CommittedEdge, AllOnce, is_before, IsSerialOrder}
+use Rattle.raid_rules.specs.Conflict.{Path, one, cons, edges, commits, committed, commit_of, waits_for, is_next, list_next, listing, serial_order}
+use Rattle.raid_rules.specs.Committed.{CommittedEdge, AllOnce, is_before, IsSerialOrder, IsCycle, Joins, IsStuck, Arranges, IsOrderOf}
+use Rattle.raid_rules.specs.declared.order.Order.TheVariants.{Whole, Cyclic}
+use Rattle.raid_rules.specs.declared.order.Order.{Order}
 use Rattle.raid_rules.proofs.Push.{same_txn}
 use Rattle.raid_rules.proofs.Reach.{IsPair, many, many_below}
 use Rattle.raid_rules.proofs.Edges.{pair_edge, edge_pair}
 use Rattle.raid_rules.proofs.Txns.{not_true, eq_self, off, or_right, many_less, many_some, out, out_push, has_kept, has_end, all_in, each_in, found, not_found, once_push, before_push, before_last, before_self, before_before}
-use Rattle.raid_rules.proofs.Cycle.{stuck}
+use Rattle.raid_rules.proofs.Cycle.{stuck, cycle_map}
 
 zero_or : (n : ℕ) → (n ≡ 0) ⊎ (0 < n)
 zero_or zero = inl refl
@@ -41,10 +43,6 @@ any_find f (x ∷ xs) e = elim (cases_Bool (f x)) [
   | inl q ↦ (x, q, λ g h. or_left _ _ h)
   | inr q ↦ let r = any_find f xs (grind (arith, common_steps, e, q)) in (r.0, r.1, λ g h. or_right _ _ (r.2 g h))
 ]
-
--- an edge to t from one that isn't listed
-abbrev pub waits_for : List Txn → List Txn → Txn → Txn × Txn → Bool
-waits_for all listed t e = is_txn t e.1 && has_txn all e.0 && not (has_txn listed e.0)
 
 three : (a b c : Bool) → (a && b && c) ≡ true → (a ≡ true) × (b ≡ true) × (c ≡ true)
 three true true c e = (refl, refl, e)
@@ -121,6 +119,14 @@ module _ (pairs : List (Txn × Txn)) (all : List Txn) where
       (λ (whole : list_all (has_txn (listing pairs all)) all ≡ true). absurd (true≢false (sym whole ∙ some)))
       (λ (end : find (is_next pairs all (listing pairs all)) all ≡ None). has_pred pairs all (listing pairs all) t h (not_found (is_next pairs all (listing pairs all)) all end t i))
       listing_ends
+
+  -- where somebody isn't listed, the rest is stuck
+  pub left_stuck : (listed : List Txn) (t : Txn) → listed ≡ listing pairs all → find (out listed) all ≡ Some t → IsStuck pairs all listed × (has_txn all t ≡ true) × (has_txn listed t ≡ false)
+  left_stuck listed t s e =
+      let f = found (out listed) all t e in
+      let h = off _ f.0 in
+      let some : list_all (has_txn (listing pairs all)) all ≡ false = ap (λ l. list_all (has_txn l) all) (sym s) ∙ not_true _ (λ w. true≢false (sym (each_in listed all t w f.1) ∙ h)) in
+      (subst (IsStuck pairs all) (sym s) (not_listed some), f.1, h)
 
   -- an edge to whoever is next comes from one that is listed
   pub next_after : (listed : List Txn) (t u : Txn) → is_next pairs all listed t ≡ true → IsPair pairs u t → has_txn all u ≡ true → has_txn listed u ≡ true
@@ -231,6 +237,13 @@ module _ (p : List Noted) where
     | inl w ↦ absurd (serial_acyclic (listing (edges p) (committed p)) (whole_serial w) t c)
     | inr some ↦ ap (λ b. if b then listing (edges p) (committed p) else []) some
   ]
+
+  -- what the edges and the committed ones give is the order of the view
+  pub arranged_order : (o : Order) → Arranges (edges p) (committed p) o → IsOrderOf p o
+  arranged_order (Whole order) a =
+      let w : list_all (has_txn (listing (edges p) (committed p))) (committed p) ≡ true = subst (λ l. list_all (has_txn l) (committed p) ≡ true) a.0 a.1 in
+      (a.0 ∙ sym (ap (λ b. if b then listing (edges p) (committed p) else []) w), subst (IsSerialOrder p) (sym a.0) (whole_serial w))
+  arranged_order (Cyclic cycle) a = cycle_map (Joins (edges p) (committed p)) (CommittedEdge p) (λ t u j. (pair_edge p t u j.0, sym (committed_has p t) ∙ j.1, sym (committed_has p u) ∙ j.2)) cycle a
 
 -- one more entry, and who is committed
 pub committed_push : (p : List Noted) (n : Noted) → committed (p ++ n ∷ []) ≡ committed p ++ map (λ c. c.0) (option_to_list (commit_of n.entry))

@@ -153,6 +153,15 @@ has_kept test t (x ∷ xs) = go (test x) (is_txn t x) refl refl (has_kept test t
     go false true e q h = h ∙ ap (λ b. b && has_txn xs t) (is_so q ∙ e) ∙ sym (ap (λ b. b && true) (is_so q ∙ e))
     go false false e q h = h
 
+-- where none out of it is found, all are in the list
+pub none_out : (listed xs : List Txn) → find (out listed) xs ≡ None → list_all (has_txn listed) xs ≡ true
+none_out listed [] e = refl
+none_out listed (x ∷ xs) e = go (has_txn listed x) e (none_out listed xs)
+  where
+    go : (b : Bool) → cond (not b) (Some x) (find (out listed) xs) ≡ None → (find (out listed) xs ≡ None → list_all (has_txn listed) xs ≡ true) → (b && list_all (has_txn listed) xs) ≡ true
+    go true e r = r e
+    go false e r = absurd (none_is x (sym e))
+
 -- one more at the end stands once, where it is new
 pub once_push : (xs : List Txn) (t : Txn) → AllOnce xs → has_txn xs t ≡ false → AllOnce (xs ++ t ∷ [])
 once_push [] t d h = (refl, tt)

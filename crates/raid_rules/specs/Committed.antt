@@ -1,12 +1,13 @@
 -- The committed transactions: edges between them, orders of them, and cycles.
 use Rattle.std.specs.Prelude.{◌≡◌, Bool, true, false, ◌&&◌, ◌||◌, List, [], ◌∷◌, ◌++◌, ⊤, if◌then◌else◌}
+use Rattle.std.specs.List.{list_any, list_all}
 use Rattle.raid_base.specs.Names.{is_txn, has_txn}
 use Rattle.raid_base.specs.declared.names.Txn.{Txn}
 use Rattle.raid_base.specs.declared.entry.Noted.{Noted}
 use Rattle.raid_rules.specs.declared.order.Order.{Order}
 use Rattle.raid_rules.specs.declared.order.Order.TheVariants.{Whole, Cyclic}
 use Rattle.raid_rules.specs.History.{has_committed}
-use Rattle.raid_rules.specs.Conflict.{Edge, serial_order}
+use Rattle.raid_rules.specs.Conflict.{Edge, waits_for, listing, serial_order}
 
 -- an edge from a committed transaction to a committed one
 abbrev pub CommittedEdge : List Noted → Txn → Txn → Type 0
@@ -42,6 +43,19 @@ IsCycle R (t ∷ ts) = IsChain R t (ts ++ t ∷ [])
 abbrev pub up_to : Txn → List Txn → List Txn
 up_to t [] = []
 up_to t (x ∷ xs) = x ∷ (if is_txn t x then [] else up_to t xs)
+
+-- one of the edges leads from t to u, and both are among these
+abbrev pub Joins : List (Txn × Txn) → List Txn → Txn → Txn → Type 0
+Joins pairs all t u = (list_any (λ e. is_txn t e.0 && is_txn u e.1) pairs ≡ true) × (has_txn all t ≡ true) × (has_txn all u ≡ true)
+
+-- whoever of these isn't listed has an edge from another that isn't
+abbrev pub IsStuck : List (Txn × Txn) → List Txn → List Txn → Type 0
+IsStuck pairs all listed = (t : Txn) → has_txn all t ≡ true → has_txn listed t ≡ false → list_any (waits_for all listed t) pairs ≡ true
+
+-- a whole order is the listing of these, with all of them in it; a cyclic one is a cycle of theirs
+abbrev pub Arranges : List (Txn × Txn) → List Txn → Order → Type 0
+Arranges pairs all (Whole order) = (order ≡ listing pairs all) × (list_all (has_txn order) all ≡ true)
+Arranges pairs all (Cyclic cycle) = IsCycle (Joins pairs all) cycle
 
 -- a whole order is the serial order; a cyclic one is a cycle of committed transactions
 abbrev pub IsOrderOf : List Noted → Order → Type 0

@@ -85,9 +85,13 @@ committed p = map (λ c. c.0) (commits p)
 abbrev pub request_of : List Noted → Txn → Option Request
 request_of p t = option_map (λ c. c.1) (find (λ c. is_txn t c.0) (commits p))
 
+-- the edge leads to t from a committed one that isn't listed
+abbrev pub waits_for : List Txn → List Txn → Txn → Txn × Txn → Bool
+waits_for all listed t e = is_txn t e.1 && has_txn all e.0 && not (has_txn listed e.0)
+
 -- the transaction isn't listed, and each committed one with an edge to it is
 abbrev pub is_next : List (Txn × Txn) → List Txn → List Txn → Txn → Bool
-is_next pairs all listed t = not (has_txn listed t) && not (list_any (λ e. is_txn t e.1 && has_txn all e.0 && not (has_txn listed e.0)) pairs)
+is_next pairs all listed t = not (has_txn listed t) && not (list_any (waits_for all listed t) pairs)
 
 -- the list, longer by the first that is next
 abbrev pub list_next : List (Txn × Txn) → List Txn → List Txn → List Txn

@@ -1,7 +1,7 @@
 //! The serial order of the committed transactions.
 
-ghost use Rattle.std.specs.Prelude.{◌≡◌, ◌∷◌, ◌++◌, ◌&&◌, not, map, find, option_to_list, OnOk, IfOk};
-ghost use Rattle.std.specs.List.{list_any, list_all};
+ghost use Rattle.std.specs.Prelude.{◌≡◌, true, false, ◌∷◌, ◌++◌, ◌&&◌, not, map, find, option_to_list, OnOk, IfOk};
+ghost use Rattle.std.specs.List.{list_any};
 ghost use Rattle.raid_base.specs.Names.{is_txn, has_txn};
 ghost use Rattle.raid_rules.specs.Conflict as words;
 ghost use Rattle.raid_rules.specs.Committed as sets;
@@ -42,7 +42,7 @@ pub fn committed(alloc: Global, view: &[Noted]) -> Result<TxnList, NoMemory>
 
 /// Whether a committed transaction that isn't listed has an edge to this one.
 fn has_to_wait(pairs: &[(Txn, Txn)], all: &[Txn], listed: &[Txn], txn: Txn) -> bool
-    ensures { result ≡ list_any (λ e. is_txn txn e.1 && has_txn all.now e.0 && not (has_txn listed.now e.0)) pairs.now }
+    ensures { result ≡ list_any (words.waits_for all.now listed.now txn) pairs.now }
 {
     pairs.iter().any(|(from, to)| *to == txn
         && conflict::is_listed(all, *from)
@@ -86,11 +86,13 @@ fn listing(alloc: Global, pairs: &[(Txn, Txn)], all: &[Txn]) -> Result<TxnList, 
     Ok(listed)
 }
 
-/// Whether all of them are listed.
-fn are_listed(all: &[Txn], listed: &[Txn]) -> bool
-    ensures { result ≡ list_all (has_txn listed.now) all.now }
+/// The first of them that isn't listed.
+fn unlisted(all: &[Txn], listed: &[Txn]) -> Option<Txn>
+    ensures { result ≡ find (λ t. not (has_txn listed.now t)) all.now }
 {
-    all.iter().all(|txn| conflict::is_listed(listed, *txn))
+    all.iter()
+        .copied()
+        .find(|txn| !conflict::is_listed(listed, *txn))
 }
 
 /// A list with one more at its front.
@@ -117,4 +119,70 @@ fn up_to(alloc: Global, last: Txn, list: &[Txn]) -> Result<TxnList, NoMemory>
         }
     }
     Ok(front)
+}
+
+/// A committed transaction that isn't listed and has an edge to this one.
+fn waited_for(pairs: &[(Txn, Txn)], all: &[Txn], listed: &[Txn], txn: Txn) -> Txn
+    requires { list_any (words.waits_for all.now listed.now txn) pairs.now ≡ true }
+    ensures edge { list_any (λ e. is_txn result e.0 && is_txn txn e.1) pairs.now ≡ true }
+    ensures committed { has_txn all.now result ≡ true }
+    ensures unlisted { has_txn listed.now result ≡ false }
+{
+    for (from, to) in pairs {
+        if *to == txn && conflict::is_listed(all, *from) && !conflict::is_listed(listed, *from) {
+            return *from;
+        }
+    }
+    unreachable!()
+}
+
+/// A cycle among those that can't be listed, found by a walk from one of them, back along edges.
+fn cycle(
+    alloc: Global,
+    pairs: &[(Txn, Txn)],
+    all: &[Txn],
+    listed: &[Txn],
+    start: Txn,
+) -> Result<TxnList, NoMemory>
+    requires stuck { sets.IsStuck pairs.now all.now listed.now }
+    requires committed { has_txn all.now start ≡ true }
+    requires unlisted { has_txn listed.now start ≡ false }
+    ensures { IfOk result (sets.IsCycle (sets.Joins pairs.now all.now)) }
+{
+    let mut walk = before(alloc, start, &[])?;
+    let mut last = start;
+    loop {
+        let next = waited_for(pairs, all, listed, last);
+        if conflict::is_listed(walk.as_slice(), next) {
+            let cycle = up_to(alloc, next, walk.as_slice())?;
+            return Ok(cycle);
+        }
+        walk = before(alloc, next, walk.as_slice())?;
+        last = next;
+    }
+}
+
+/// The listing of these transactions by these edges, or a cycle of theirs.
+fn arranged(alloc: Global, pairs: &[(Txn, Txn)], all: &[Txn]) -> Result<Order, NoMemory>
+    ensures { IfOk result (sets.Arranges pairs.now all.now) }
+{
+    let listed = listing(alloc, pairs, all)?;
+    match unlisted(all, listed.as_slice()) {
+        None => Ok(Order::Whole(listed)),
+        Some(start) => {
+            let cycle = cycle(alloc, pairs, all, listed.as_slice(), start)?;
+            Ok(Order::Cyclic(cycle))
+        }
+    }
+}
+
+/// The order of the committed transactions: whole, with the serial order, or cyclic, exactly where they have
+/// a cycle of conflicts. Want of memory is the only error.
+pub fn order_of(alloc: Global, view: &[Noted]) -> Result<Order, NoMemory>
+    ensures { IfOk result (sets.IsOrderOf view.now) }
+{
+    let edges = conflict::edges(alloc, view)?;
+    let all = committed(alloc, view)?;
+    let order = arranged(alloc, edges.as_slice(), all.as_slice())?;
+    Ok(order)
 }

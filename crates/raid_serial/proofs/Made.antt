@@ -1,4 +1,4 @@
--- F6: a committed request is what the program makes of what its transaction has seen.
+-- A committed request is what the program makes of what its transaction has seen.
 use Rattle.std.proofs.Common.{◌≡◌, inl, inr, Bool, true, false, not, ◌&&◌, cond, if◌then◌else◌, List, [], ◌∷◌, ◌++◌, sym, ◌∙◌, ap, subst, refl, Option, Some, None, arith}
 use Rattle.std.specs.Prelude.{filter_map, slice_get, find, option_and_then, nat_le, ◌+◌}
 use Rattle.std.specs.List.{list_any, filter, cons_option}
@@ -223,6 +223,6 @@ legal_waits w = by_last (λ h. Legal w h → Waits w (noted_in h)) (λ l. record
         let ws : Waits w (noted_in h) = rest q.0 in
         subst (Waits w) (sym (noted_push h e)) (waits_add w (noted_in h) e ws (allowed_made w (noted_in h) e ws q.1))
 
--- F6
+-- so each Commit is made
 pub commits_are_made : (w : Workload) (h : List Real) (t : Txn) (request : Request) (applied : List Site) → Legal w (h ++ Commit t request applied ∷ []) → Makes w (noted_in h) t request
 commits_are_made w h t request applied l = let q = (legal_push w h (Commit t request applied)).0 l in allowed_made w (noted_in h) (Commit t request applied) (legal_waits w h q.0) q.1

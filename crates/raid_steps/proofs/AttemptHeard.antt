@@ -6,35 +6,43 @@ use Rattle.raid_base.specs.declared.entry.Cause.TheVariants as causes
 use Rattle.raid_base.specs.declared.verdict.Kind.TheVariants as kinds
 use Rattle.raid_base.specs.declared.verdict.Structure.TheVariants as structures
 use Rattle.raid_workload.specs.declared.workload.Workload.{Workload}
-use Rattle.raid_legal.proofs.Scene.{t1, t2, t3, x, y, s1, request, item_line, home_at, number}
+use Rattle.raid_workload.specs.declared.workload.ItemLine.{ItemLine}
+use Rattle.raid_workload.specs.declared.workload.Homed.{Homed}
+use Rattle.raid_legal.proofs.Scene.{t1, t2, t3, x, y, s1, request, item_line, home_at}
 use Rattle.std.specs.Option.{option_map_or}
 use Rattle.raid_message.specs.declared.letter.Letter.{Letter}
 use Rattle.raid_message.specs.declared.letter.Message.TheVariants as letters
 use Rattle.raid_steps.specs.State.{Out, Sequencer}
 use Rattle.raid_steps.specs.Sequencer.{hear_sequencer}
-use Rattle.raid_steps.specs.World.{run, first_servers}
+use Rattle.raid_steps.specs.World.{first_servers}
 use Rattle.raid_steps.proofs.Mail.{letter}
 
 -- what is run
+abbrev items : List ItemLine
+items =
+    item_line (120 ∷ []) (pos 0) (s1 ∷ []) ∷
+    item_line (121 ∷ []) (pos 0) (s1 ∷ []) ∷
+    item_line (122 ∷ []) (pos 0) (s1 ∷ []) ∷
+    []
+
+abbrev programs : List Homed
+programs =
+    home_at s1 [] ∷
+    home_at s1 [] ∷
+    []
+
 abbrev w : Workload
 w = record {
   version = 2;
   restarts = 1;
   sites = 1;
   together = 3;
-  items =
-      item_line (120 ∷ []) (pos 0) (s1 ∷ []) ∷
-      item_line (121 ∷ []) (pos 0) (s1 ∷ []) ∷
-      item_line (122 ∷ []) (pos 0) (s1 ∷ []) ∷
-      [];
+  items = items;
   kind = kinds.Valid;
   structure = structures.Native;
   switches = [];
   events = [];
-  programs =
-      home_at s1 [] ∷
-      home_at s1 [] ∷
-      [];
+  programs = programs;
   kept = refl;
 }
 

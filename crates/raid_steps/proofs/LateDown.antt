@@ -6,34 +6,42 @@ use Rattle.raid_base.specs.declared.entry.Cause.TheVariants as causes
 use Rattle.raid_base.specs.declared.verdict.Kind.TheVariants as kinds
 use Rattle.raid_base.specs.declared.verdict.Structure.TheVariants as structures
 use Rattle.raid_workload.specs.declared.workload.Workload.{Workload}
-use Rattle.raid_legal.proofs.Scene.{t1, s1, s2, item_line, home_at, number}
+use Rattle.raid_workload.specs.declared.workload.ItemLine.{ItemLine}
+use Rattle.raid_workload.specs.declared.workload.Homed.{Homed}
+use Rattle.raid_legal.proofs.Scene.{t1, s1, s2, item_line, home_at}
 use Rattle.std.specs.Option.{option_map_or}
 use Rattle.raid_message.specs.declared.letter.Letter.{Letter}
 use Rattle.raid_message.specs.declared.letter.Message.TheVariants as letters
 use Rattle.raid_steps.specs.State.{Out, Sequencer}
 use Rattle.raid_steps.specs.Sequencer.{hear_sequencer}
-use Rattle.raid_steps.specs.World.{run, first_servers}
+use Rattle.raid_steps.specs.World.{first_servers}
 use Rattle.raid_steps.proofs.Mail.{letter}
 
 -- what is run
+abbrev items : List ItemLine
+items =
+    item_line (120 ∷ []) (pos 0) (s1 ∷ s2 ∷ []) ∷
+    item_line (121 ∷ []) (pos 0) (s1 ∷ s2 ∷ []) ∷
+    item_line (122 ∷ []) (pos 0) (s1 ∷ s2 ∷ []) ∷
+    []
+
+abbrev programs : List Homed
+programs =
+    home_at s2 [] ∷
+    []
+
 abbrev w : Workload
 w = record {
   version = 1;
   restarts = 0;
   sites = 2;
   together = 3;
-  items =
-      item_line (120 ∷ []) (pos 0) (s1 ∷ s2 ∷ []) ∷
-      item_line (121 ∷ []) (pos 0) (s1 ∷ s2 ∷ []) ∷
-      item_line (122 ∷ []) (pos 0) (s1 ∷ s2 ∷ []) ∷
-      [];
+  items = items;
   kind = kinds.Lock;
   structure = structures.Native;
   switches = [];
   events = [];
-  programs =
-      home_at s2 [] ∷
-      [];
+  programs = programs;
   kept = refl;
 }
 

@@ -1,3 +1,5 @@
+pub mod Addressed
+pub mod AddressedSite
 mod AttemptHeard
 mod CopierHeard
 mod DeadlockHeard
@@ -6,6 +8,7 @@ mod FirstRun
 mod LateDown
 pub mod Links
 pub mod Mail
+pub mod Parts
 pub mod Settle
 mod StaleCommit
 mod StopInRun

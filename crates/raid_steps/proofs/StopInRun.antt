@@ -5,29 +5,44 @@ use Rattle.raid_base.specs.declared.verdict.Kind.TheVariants as kinds
 use Rattle.raid_base.specs.declared.verdict.Structure.TheVariants as structures
 use Rattle.raid_base.specs.declared.report.Report.{Report}
 use Rattle.raid_workload.specs.declared.workload.Workload.{Workload}
+use Rattle.raid_workload.specs.declared.workload.ItemLine.{ItemLine}
+use Rattle.raid_workload.specs.declared.workload.Event.{Event}
+use Rattle.raid_workload.specs.declared.workload.Homed.{Homed}
 use Rattle.raid_legal.proofs.Scene.{t1, t2, x, s1, s2, request, item_line, stops, returns, home_at, number, load, store, copy_line}
 use Rattle.raid_message.specs.declared.letter.Pick.{Pick}
 use Rattle.raid_steps.specs.World.{run, report, is_schedule, is_idle}
-use Rattle.raid_steps.proofs.Mail.{letter, takes, step}
+use Rattle.raid_steps.proofs.Mail.{takes, step}
 
 -- what is run
+abbrev items : List ItemLine
+items =
+    item_line (120 ∷ []) (pos 0) (s1 ∷ s2 ∷ []) ∷
+    []
+
+abbrev events : List Event
+events =
+    stops s2 1 ∷
+    returns s2 2 ∷
+    []
+
+abbrev programs : List Homed
+programs =
+    home_at s1 (store x (number (pos 1)) ∷ []) ∷
+    home_at s1 (load x 0 ∷ []) ∷
+    []
+
 abbrev w : Workload
 w = record {
   version = 1;
   restarts = 0;
   sites = 2;
   together = 1;
-  items =
-      item_line (120 ∷ []) (pos 0) (s1 ∷ s2 ∷ []) ∷
-      [];
+  items = items;
   kind = kinds.Lock;
   structure = structures.Native;
   switches = [];
-  events = (stops s2 1 ∷ returns s2 2 ∷ []);
-  programs =
-      home_at s1 (store x (number (pos 1)) ∷ []) ∷
-      home_at s1 (load x 0 ∷ []) ∷
-      [];
+  events = events;
+  programs = programs;
   kept = refl;
 }
 

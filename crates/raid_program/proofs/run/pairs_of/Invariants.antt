@@ -1,5 +1,5 @@
 use Rattle.std.proofs.Common.{◌≡◌, take}
-use Rattle.raid_program.proofs.table.pairs_of.Given as goal
+use Rattle.raid_program.proofs.run.pairs_of.Given as goal
 
 -- what was copied is the front of the pairs
 abbrev pub invariant-loop-pair : goal.invariant-loop-pair

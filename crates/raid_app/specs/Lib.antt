@@ -1,0 +1,4 @@
+pub mod Answer
+pub mod Ended
+pub mod Lines
+pub mod OneByOne

@@ -1,0 +1,19 @@
+-- The lines that the program writes beside its output.
+use Rattle.std.specs.Prelude.{ℕ, List, [], ◌∷◌, ◌++◌, codes}
+use Rattle.std.specs.Fmt.{decimal}
+use Rattle.raid_tokens.specs.declared.fault.Fault.{Fault}
+use Rattle.raid_tokens.specs.Fault.{number, word}
+
+abbrev pub line : List ℕ → List ℕ
+line text = text ++ 10 ∷ []
+
+-- how the program is called
+abbrev pub usage_line : List ℕ
+usage_line = line (codes "usage: raid run")
+
+-- why a text was refused: it is too long, or what is wrong first and on which line
+abbrev pub too_long_line : List ℕ
+too_long_line = line (codes "refused too long")
+
+abbrev pub fault_line : ℕ → Fault → List ℕ
+fault_line at fault = line (codes "refused line " ++ decimal at ++ codes " fault " ++ decimal (number fault) ++ 32 ∷ word fault)

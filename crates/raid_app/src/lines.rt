@@ -1,0 +1,49 @@
+ghost use Rattle.std.specs.Prelude.{◌≡◌, ◌++◌, ◌∷◌, [], IfOk, OnOk};
+ghost use Rattle.std.specs.Fmt.{decimal};
+ghost use Rattle.raid_app.specs.Lines as lines;
+
+use itoa::Buffer;
+use raid_base::{Bytes, NoMemory};
+use raid_tokens::Fault;
+use std::alloc::Global;
+
+/// How the program is called.
+pub const USAGE: &[u8] = b"usage: raid run\n";
+
+/// What is said of a text of more bytes than there may be.
+pub const TOO_LONG: &[u8] = b"refused too long\n";
+
+/// The line that refuses a text: the line of its first fault, counted from 1, with the fault's number and word.
+/// Line 0 stands for a text that reads well and asks for what isn't built yet.
+pub fn fault_line(alloc: Global, line: u32, fault: Fault) -> Result<Bytes, NoMemory>
+    ensures { IfOk result (λ text. text ≡ lines.fault_line line fault) }
+{
+    let mut text = Bytes::new(alloc);
+    put(&mut text, b"refused line ")?;
+    put(&mut text, Buffer::new().format(line).as_bytes())?;
+    put(&mut text, b" fault ")?;
+    put(&mut text, Buffer::new().format(fault.number()).as_bytes())?;
+    put(&mut text, b" ")?;
+    put(&mut text, fault.word())?;
+    put(&mut text, b"\n")?;
+    Ok(text)
+}
+
+/// The bytes, in a list of their own.
+pub fn copied(alloc: Global, bytes: &[u8]) -> Result<Bytes, NoMemory>
+    ensures { IfOk result (λ text. text ≡ bytes.now) }
+{
+    let mut text = Bytes::new(alloc);
+    put(&mut text, bytes)?;
+    Ok(text)
+}
+
+/// Puts bytes behind those of a text.
+fn put(text: &mut Bytes, bytes: &[u8]) -> Result<(), NoMemory>
+    ensures { OnOk result (text.new ≡ text.old ++ bytes.now) }
+{
+    for byte in bytes {
+        text.push(*byte)?;
+    }
+    Ok(())
+}
