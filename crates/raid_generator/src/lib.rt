@@ -5,5 +5,7 @@ mod draws;
 mod items;
 mod making;
 mod programs;
+#[cfg(test)]
+mod tests;
 
 pub use making::make;

@@ -3,14 +3,16 @@
 
 mod body;
 mod choices;
-pub mod error;
+mod error;
 mod head;
 mod laws;
 mod names;
-pub mod reading;
-pub mod state;
+mod reading;
+mod state;
 mod statements;
-pub mod writing;
+#[cfg(test)]
+mod tests;
+mod writing;
 
 pub use error::Refused;
 pub use laws::{never_both, one_of_both, one_reading, print_reads};
