@@ -1,3 +1,9 @@
+pub mod Items
+pub mod Kept
+pub mod Known
 pub mod Programs
+pub mod Reported
 pub mod Sayings
+pub mod Steps
 pub mod Values
+pub mod Versions

@@ -43,7 +43,7 @@ committed_push p e =
     ap (λ cs. map (λ (c : Txn × Request). c.0) cs) (filter_map-append (λ (n : Noted). commit_of n.entry) p (next p e ∷ []))
     ∙ map-append (λ (c : Txn × Request). c.0) (filter_map (λ (n : Noted). commit_of n.entry) p) (filter_map (λ (n : Noted). commit_of n.entry) (next p e ∷ []))
 
-commits_more : (e : Entry) (es : List Entry) → commits_in (e ∷ es) ≡ commits_in (e ∷ []) ++ commits_in es
+pub commits_more : (e : Entry) (es : List Entry) → commits_in (e ∷ es) ≡ commits_in (e ∷ []) ++ commits_in es
 commits_more e es = grind (arith, common_steps)
 
 committed_from : (p : List Noted) (h : List Entry) → committed (fold add p h) ≡ committed p ++ commits_in h
@@ -55,10 +55,10 @@ committed_from p (e ∷ es) =
 pub committed_noted : (h : List Entry) → committed (noted h) ≡ commits_in h
 committed_noted h = committed_from [] h
 
-worth_append : (x : Item) (v : ℤ) (g h : List Entry) → worth x v (g ++ h) ≡ worth x (worth x v g) h
+pub worth_append : (x : Item) (v : ℤ) (g h : List Entry) → worth x v (g ++ h) ≡ worth x (worth x v g) h
 worth_append x v g h = grind (arith, common_steps)
 
-commits_append : (g h : List Entry) → commits_in (g ++ h) ≡ commits_in g ++ commits_in h
+pub commits_append : (g h : List Entry) → commits_in (g ++ h) ≡ commits_in g ++ commits_in h
 commits_append [] h = refl
 commits_append (e ∷ g) h = commits_more e (g ++ h) ∙ ap (λ ts. commits_in (e ∷ []) ++ ts) (commits_append g h) ∙ sym (append_assoc (commits_in (e ∷ [])) (commits_in g) (commits_in h)) ∙ ap (λ ts. ts ++ commits_in h) (sym (commits_more e g))
 

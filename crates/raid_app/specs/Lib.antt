@@ -2,3 +2,4 @@ pub mod Answer
 pub mod Ended
 pub mod Lines
 pub mod OneByOne
+pub mod Progress

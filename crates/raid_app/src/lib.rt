@@ -4,7 +4,9 @@
 pub mod answer;
 pub mod call;
 pub mod lines;
+pub mod machine;
 pub mod serial;
+pub mod told;
 pub mod words;
 
 pub use call::{Ended, Schedule, run};

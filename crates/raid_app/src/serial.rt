@@ -2,6 +2,8 @@ ghost use Rattle.std.specs.Prelude.{◌≡◌, ◌<◌, ◌^◌, ◌-◌, true, 
 ghost use Rattle.raid_report.specs.Known.{IsReportOf};
 ghost use Rattle.raid_app.specs.OneByOne as words;
 
+use crate::machine::run_all;
+use crate::told::{copies, finals, versions};
 use raid_base::{Kind, NoMemory, Report, Structure};
 use raid_workload::Workload;
 use std::alloc::Global;
@@ -37,5 +39,14 @@ pub fn serial_report(alloc: Global, workload: &Workload) -> Result<Report, NoMem
     ensures few { IfOk result (λ r. length r.entries < 2 ^ 32 - 1) }
     ensures known { IfOk result (IsReportOf workload.now) }
 {
-    Err(NoMemory)
+    let machine = run_all(alloc, workload)?;
+    let finals = finals(alloc, workload, &machine.table)?;
+    let versions = versions(alloc, workload, machine.entries.as_slice())?;
+    let copies = copies(alloc, workload, &machine.table, versions.as_slice())?;
+    Ok(Report {
+        entries: machine.entries,
+        order: machine.order,
+        finals,
+        copies,
+    })
 }
