@@ -4,6 +4,8 @@ pub mod Runs
 pub mod Agree
 pub mod Lists
 pub mod Made
+pub mod Ordered
+pub mod Attempts
 pub mod Committed
 pub mod Tamed
 pub mod Facts
