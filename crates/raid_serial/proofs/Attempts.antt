@@ -24,7 +24,8 @@ use Rattle.raid_serial.proofs.Theorem.{inv}
 use Rattle.raid_serial.proofs.Translate.{txn, Has, has_any, any_has, cases_true, hist_of, rep_hist}
 use Rattle.raid_serial.proofs.Real.{com_model, ab_model}
 use Rattle.raid_serial.proofs.Facts.{Fact, fact}
-use Rattle.raid_serial.proofs.Tamed.{by_last, legal_stands}
+use Rattle.raid_rules.proofs.Places.{by_last}
+use Rattle.raid_serial.proofs.Tamed.{legal_stands}
 use Rattle.raid_serial.proofs.Ordered.{Ordered, legal_ordered}
 
 -- each later attempt that has begun comes after an Abort of the one before it

@@ -19,16 +19,22 @@ use Rattle.raid_rules.specs.Order.{is_of, is_seen, IsInOrder, IsWhole, Follows, 
 use Rattle.raid_rules.proofs.Push.{same_txn, whole_push, in_order_push, number_of_push, has_begun_push, owes_push, noted_push}
 use Rattle.raid_legal.specs.Legal.{Legal}
 use Rattle.raid_legal.proofs.Push.{legal_push}
-use Rattle.raid_serial.proofs.Translate.{cases_true}
+use Rattle.raid_serial.proofs.Translate.{Has, has_contains, cases_true}
+use Rattle.raid_serial.proofs.Grants.{number_some}
 use Rattle.raid_serial.proofs.Facts.{Fact, fact}
-use Rattle.raid_serial.proofs.Tamed.{by_last}
+use Rattle.raid_rules.proofs.Places.{by_last}
 
 pub record Ordered (p : List RNoted) : Type 0 where
   pub in_order : IsInOrder p
   pub whole : IsWhole p
   pub stamped : (t : Txn) → All (λ m. is_of t m.entry ≡ true → m.stamp ≡ stamp p t) p
   pub bounded : All (λ m. m.at < length p + 1) p
+  pub later : All (λ m. m.stamp < m.at + 1) p
   pub acked : (s : Site) (t : Txn) → owes p s t ≡ true → has_begun p t ≡ true
+
+-- what holds of all entries holds of one
+pub all_has : (P : RNoted → Type 0) (p : List RNoted) (n : RNoted) → All P p → Has n p → P n
+all_has P p n a i = let c = has_contains p n i in subst P c.2 (a c.0 n c.1)
 
 -- an entry with a transaction of its own is its Begin, or comes after it
 abbrev Placed : List RNoted → Real → Txn → Type 0
@@ -48,7 +54,7 @@ begins_at : (p : List RNoted) (k : ℕ) (e : Real) (t : Txn) → is_begin_of t e
 begins_at p k (Begin u home) t q = refl
 begins_at p k other t q = absurd (true≢false (sym q))
 
-own_begin : (e : Real) (t : Txn) → is_begin_of t e ≡ true → is_of t e ≡ true
+pub own_begin : (e : Real) (t : Txn) → is_begin_of t e ≡ true → is_of t e ≡ true
 own_begin (Begin u home) t q = q
 own_begin other t q = absurd (true≢false (sym q))
 
@@ -99,9 +105,25 @@ module _ (w : Workload) (p : List RNoted) (o : Ordered p) where
     whole = whole_push p (next p e) o.whole (follows e f);
     stamped = λ t. All-push (λ m. is_of t m.entry ≡ true → m.stamp ≡ stamp (add p e) t) p (next p e) (before t) (λ here. stamp_of_next p (length p + 1) e t here ∙ sym (number_of_push (is_begin_of t) p (next p e)));
     bounded = All-push (λ m. m.at < length (add p e) + 1) p (next p e) (λ k d l. let b : (get_or p k d).at < length p + 1 = o.bounded k d l in omega (arith, length-append p (next p e ∷ []))) (omega (arith, length-append p (next p e ∷ [])));
+    later = All-push (λ m. m.stamp < m.at + 1) p (next p e) o.later (stamp_low e);
     acked = λ s t h. has_begun_push p (next p e) t ∙ or_left _ _ (owed_begun e s t f (sym (owes_push p (next p e) s t) ∙ h));
   }
     where
+      stamp_below : (t : Txn) → stamp p t < length p + 1 + 1
+      stamp_below t = elim (number_some (is_begin_of t) p 0) [
+        | inl z ↦ omega (arith, (let y : stamp p t ≡ 0 = z in y))
+        | inr b ↦ omega (arith, (let y : stamp p t ≡ (b.0).at = b.3 in y), all_has (λ m. m.at < length p + 1) p b.0 o.bounded b.1)
+      ]
+
+      stamp_low : (e : Real) → stamp_at p (length p + 1) e < length p + 1 + 1
+      stamp_low (Begin u home) = omega arith
+      stamp_low (Read u x site) = stamp_below u
+      stamp_low (Wait u request) = stamp_below u
+      stamp_low (Commit u request applied) = stamp_below u
+      stamp_low (Abort u cause act) = stamp_below u
+      stamp_low (Ack u site) = stamp_below u
+      stamp_low other = omega arith
+
       before : (t : Txn) → All (λ m. is_of t m.entry ≡ true → m.stamp ≡ stamp (add p e) t) p
       before t k d l own = o.stamped t k d l own ∙ sym (number_of_push (is_begin_of t) p (next p e) ∙ elim (cases_true (is_begin_of t e)) [
         | inr b ↦ ap (λ c. if c then length p + 1 else stamp p t) b
@@ -117,6 +139,7 @@ ordered_none = record {
   whole = λ t q. absurd (true≢false (sym q));
   stamped = λ t k d l. absurd (omega (arith, l));
   bounded = λ k d l. absurd (omega (arith, l));
+  later = λ k d l. absurd (omega (arith, l));
   acked = λ s t q. absurd (true≢false (sym q));
 }
 
