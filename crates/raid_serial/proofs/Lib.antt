@@ -5,6 +5,8 @@ pub mod Agree
 pub mod Lists
 pub mod Made
 pub mod Ordered
+pub mod Force
+pub mod Joint
 pub mod Backward
 pub mod Views
 pub mod Attempts

@@ -32,7 +32,7 @@ use Rattle.raid_serial.proofs.Backward.{backward_real, backward_model}
 use Rattle.raid_serial.proofs.Tamed.{mk, Stands, legal_stands}
 use Rattle.raid_serial.proofs.Ordered.{Ordered, legal_ordered, all_has, own_begin}
 
-same_tests : (a b : Bool) → (a ≡ true → b ≡ true) → (b ≡ true → a ≡ true) → a ≡ b
+pub same_tests : (a b : Bool) → (a ≡ true → b ≡ true) → (b ≡ true → a ≡ true) → a ≡ b
 same_tests true b f g = sym (f refl)
 same_tests false true f g = g refl
 same_tests false false f g = refl
