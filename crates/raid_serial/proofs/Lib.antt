@@ -4,6 +4,12 @@ pub mod Runs
 pub mod Agree
 pub mod Lists
 pub mod Made
+pub mod Ordered
+pub mod Force
+pub mod Joint
+pub mod Backward
+pub mod Views
+pub mod Attempts
 pub mod Committed
 pub mod Tamed
 pub mod Facts

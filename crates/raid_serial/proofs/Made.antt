@@ -34,7 +34,7 @@ use Rattle.raid_legal.specs.Legal.{Legal, Free, Allowed, Makes, is_free}
 use Rattle.raid_legal.proofs.Push.{legal_push}
 use Rattle.raid_serial.proofs.Translate.{Has, not_true}
 use Rattle.raid_serial.proofs.Grants.{has_split}
-use Rattle.raid_serial.proofs.Tamed.{by_last}
+use Rattle.raid_rules.proofs.Places.{by_last}
 use Rattle.raid_serial.proofs.Facts.{sort, some_is, none_is, map_some, if_some}
 
 -- what an allowed entry says of programs

@@ -33,7 +33,7 @@ use Rattle.raid_serial.proofs.Serial.{Maybe, nothing, just, or_else, Val, Writes
 use Rattle.raid_serial.proofs.Values.{commits, add as add_model, Tail}
 use Rattle.raid_serial.proofs.Translate.{txn, itm, items_of, tr, trans, hist_of, hist_push, Has, has_any, cases_true, not_true, eq_self, rep_hist, commit_to, holds_mem, read_from}
 use Rattle.raid_serial.proofs.Grants.{has_last, has_before}
-use Rattle.raid_serial.proofs.Tamed.{by_last}
+use Rattle.raid_rules.proofs.Places.{by_last}
 use Rattle.raid_serial.proofs.Made.{Made, allowed_made, legal_waits}
 use Rattle.raid_serial.proofs.Facts.{some_is, none_is}
 use Rattle.raid_rules.proofs.Listing.{committed_has}
