@@ -11,3 +11,6 @@ pub mod words;
 
 pub use call::{Ended, Schedule, run};
 pub use words::Words;
+
+#[cfg(test)]
+mod tests;
