@@ -6,6 +6,8 @@ pub mod Lists
 pub mod Made
 pub mod Ordered
 pub mod Force
+pub mod Says
+pub mod Switches
 pub mod Joint
 pub mod Backward
 pub mod Views
