@@ -4,8 +4,10 @@
 
 #[cfg(test)]
 mod tests {
-    use raid_base::{Duplicate, Item, Pairs, Refusal, Site, Sites, Txn, Vector, Verdict};
-    use raid_base::{attempt_of, find, meet, program_of};
+    use raid_base::{
+        Duplicate, Item, Pairs, Refusal, Site, Sites, Txn, Vector, Verdict, attempt_of, find, meet,
+        program_of,
+    };
     use std::test::Fail;
 
     #[test]
@@ -55,6 +57,13 @@ mod tests {
             count: 2,
             sessions: [4, 0, 0, 0, 0, 0, 0, 0],
         };
-        assert_eq!(rt; (vector.session(Site(1)), vector.session(Site(2)), vector.session(Site(3))), (4, 0, 0));
+        assert_eq!(rt;
+            (
+                vector.session(Site(1)),
+                vector.session(Site(2)),
+                vector.session(Site(3))
+            ),
+            (4, 0, 0)
+        );
     }
 }

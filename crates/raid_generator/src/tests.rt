@@ -40,14 +40,14 @@ fn the_most_programs(rt: HostRuntime) -> Result<(), Fail> {
     let workload = make(rt.alloc(), 4_294_967_295, 2000)?;
     assert_eq!(rt; workload.programs.len(), 2000);
     assert_eq!(rt; workload.items.len(), 1024);
-    let mut names = 0u32;
+    let mut found = false;
     for line in workload.items.as_slice() {
         if line.name.as_slice() == b"i1023".as_slice() {
-            names += 1;
+            found = true;
             assert_eq!(rt; line.holders, Sites::none().with(Site(4)).with(Site(1)));
         }
     }
-    assert_eq!(rt; names, 1);
+    assert!(rt; found);
     let mut triggers = Vec::new(rt.alloc());
     for switch in workload.switches.as_slice() {
         triggers.push(switch.trigger)?;
