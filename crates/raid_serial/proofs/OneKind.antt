@@ -126,7 +126,7 @@ module _ (w : Workload) (none : w.switches ≡ []) (S : ℕ → ℕ) (h : List R
   rises_acts e t run by g rest u v edge = elim (edge_last (Hist (hist_of p)) (M e) (trans (next p e)) t.0 (grows (hist_of p) (trans (next p e))) (last e) by u v edge) [
     | inl old ↦ rest u v old
     | inr new ↦ (let r : S u < S t.0 = below S (Hist (hist_of p)) (Hist (hist_of p)) (M e) (trans (next p e)) t.0 (facts S (hist_of p) (length p) base) (λ m i. i) (grows (hist_of p) (trans (next p e))) (last e) by (Run (Hist (hist_of p))) (λ r x. x) (run_model (Hist (hist_of p)) p (rep_hist p) t.0 run) u g new.1 in
-      let q : S v ≡ S t.0 = ap S new.0 in omega arith)
+        let q : S v ≡ S t.0 = ap S new.0 in omega arith)
   ]
 
   rises_idle : (e : Real) → Idle (tr e) → Rising (hist_of p) → Rising (trans (next p e) ∷ hist_of p)
@@ -240,7 +240,7 @@ commits_in_turn w h l none kind t u edge =
     let first = commit_from (c.0).entry t.0 c.2 in
     let second = commit_from (d.0).entry u.0 d.2 in
     let less : (c.0).at < (d.0).at = by_steps w (stamps (noted_in h)) (λ hist. (u v : ℕ) (c d : Noted) (xs ys : List ℕ) → CEdge hist u v → In c hist → In d hist → c.entry ≡ commit u xs → d.entry ≡ commit v ys → c.at < d.at) (λ u v c d xs ys e i j ec ed. absurd i) (λ g m a e f. turns w none (stamps (noted_in h)) g m a e kinds f) h l (λ t b. refl)
-        t.0 u.0 (trans c.0) (trans d.0) first.0 second.0 (edge_model (Hist (hist_of (noted_in h))) (noted_in h) (rep_hist (noted_in h)) t u edge.0, com_model (Hist (hist_of (noted_in h))) (noted_in h) (rep_hist (noted_in h)) t.0 edge.1, com_model (Hist (hist_of (noted_in h))) (noted_in h) (rep_hist (noted_in h)) u.0 edge.2) ((rep_hist (noted_in h)).into c.0 c.1) ((rep_hist (noted_in h)).into d.0 d.1) first.1 second.1 in
+    t.0 u.0 (trans c.0) (trans d.0) first.0 second.0 (edge_model (Hist (hist_of (noted_in h))) (noted_in h) (rep_hist (noted_in h)) t u edge.0, com_model (Hist (hist_of (noted_in h))) (noted_in h) (rep_hist (noted_in h)) t.0 edge.1, com_model (Hist (hist_of (noted_in h))) (noted_in h) (rep_hist (noted_in h)) u.0 edge.2) ((rep_hist (noted_in h)).into c.0 c.1) ((rep_hist (noted_in h)).into d.0 d.1) first.1 second.1 in
     let a : commit_number (noted_in h) t ≡ (c.0).at = c.3 in
     let b : commit_number (noted_in h) u ≡ (d.0).at = d.3 in
     omega arith
