@@ -51,9 +51,9 @@ stays_aborted p n t h = list_any-append (λ m. is_abort_of t m.entry) p (n ∷ [
 
 follows_add : (w : Workload) (p : List RNoted) (e : Real) → Follows w p → Fact w p e → Follows w (add p e)
 follows_add w p e rest f t b = later (elim (cases_true (has_begun p t)) [
-      | inl old ↦ rest t old
-      | inr none ↦ begin_follows w p e t f (grind (arith, common_steps, b, none, has_begun_push p (next p e) t))
-    ])
+  | inl old ↦ rest t old
+  | inr none ↦ begin_follows w p e t f (grind (arith, common_steps, b, none, has_begun_push p (next p e) t))
+])
   where
     later : (attempt w t ≡ 0) ⊎ (has_aborted p (previous w t) ≡ true) → (attempt w t ≡ 0) ⊎ (has_aborted (add p e) (previous w t) ≡ true)
     later (inl first) = inl first
@@ -70,10 +70,13 @@ legal_follows w = by_last (λ h. Legal w h → Follows w (noted_in h)) (λ l t q
 -- the transactions of a workload are counted from 1, and none where it has no program
 counted : (first many k : ℕ) → has_txn (map txn (count_from first many)) (txn k) ≡ true → (first ≤ k) × (0 < many)
 counted first zero k q = absurd (true≢false (sym q))
-counted first (suc many) k q = (elim (cases_true (first == k)) [
-  | inl e ↦ omega (arith, eqb-true first k e)
-  | inr e ↦ let r = counted (first + 1) many k (grind (arith, common_steps, q, e)) in omega (arith, r.0)
-], omega arith)
+counted first (suc many) k q = (
+  elim (cases_true (first == k)) [
+    | inl e ↦ omega (arith, eqb-true first k e)
+    | inr e ↦ let r = counted (first + 1) many k (grind (arith, common_steps, q, e)) in omega (arith, r.0)
+  ],
+  omega arith,
+)
 
 known_txn : (w : Workload) (t : Txn) → has_txn (txns w) t ≡ true → (1 ≤ t.0) × (0 < length w.programs)
 known_txn w t q = let r = counted 1 (length w.programs * (w.restarts + 1)) t.0 q in (r.0, positive (length w.programs) r.1)

@@ -8,6 +8,8 @@ pub mod Ordered
 pub mod Force
 pub mod Says
 pub mod Switches
+pub mod OneKind
+pub mod SettledStay
 pub mod Joint
 pub mod Backward
 pub mod Views

@@ -58,7 +58,7 @@ pub own_begin : (e : Real) (t : Txn) → is_begin_of t e ≡ true → is_of t e 
 own_begin (Begin u home) t q = q
 own_begin other t q = absurd (true≢false (sym q))
 
-run_begun : (p : List RNoted) (t : Txn) → is_running p t ≡ true → has_begun p t ≡ true
+pub run_begun : (p : List RNoted) (t : Txn) → is_running p t ≡ true → has_begun p t ≡ true
 run_begun p t h = (and_parts (has_begun p t) (not (has_ended p t)) h).0
 
 module _ (w : Workload) (p : List RNoted) (o : Ordered p) where

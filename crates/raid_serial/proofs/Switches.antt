@@ -166,7 +166,7 @@ module _ (w : Workload) (p : List RNoted) (e : Real) where
   ended_add : (t : Txn) → has_ended p t ≡ true → has_ended (add p e) t ≡ true
   ended_add t h = list_any-append (λ n. is_end_of t n.entry) p (next p e ∷ []) ∙ or_left _ _ h
 
-  ran : (t : Txn) → is_begin_of t e ≡ false → is_running (add p e) t ≡ true → is_running p t ≡ true
+  pub ran : (t : Txn) → is_begin_of t e ≡ false → is_running (add p e) t ≡ true → is_running p t ≡ true
   ran t b h = grind (arith, common_steps, b, h, has_begun_push p (next p e) t, list_any-append (λ n. is_end_of t n.entry) p (next p e ∷ []))
 
   runs_on : (t : Txn) → is_end_of t e ≡ false → is_running p t ≡ true → is_running (add p e) t ≡ true

@@ -136,14 +136,14 @@ module _ (v : View) (p : List RNoted) (o : Ordered p) where
         older : (u : Txn) → has_begun (view_of v p) u ≡ false → All (λ m. is_of u m.entry ≡ true → All (λ c. is_commit (λ y request. true) c.entry ≡ true → m.stamp < c.at) (view_of v p ++ n ∷ [])) (view_of v p ++ n ∷ [])
         older u none = All-push (λ m. is_of u m.entry ≡ true → All (λ c. is_commit (λ y request. true) c.entry ≡ true → m.stamp < c.at) (view_of v p ++ n ∷ [])) (view_of v p) n
             (λ k d l own. All-push (λ c. is_commit (λ y request. true) c.entry ≡ true → (get_or (view_of v p) k d).stamp < c.at) (view_of v p) n (view_in_order.older u none k d l own)
-                (λ e. (let a : (get_or (view_of v p) k d).at < n.at = above k d l in let b : (get_or (view_of v p) k d).stamp < (get_or (view_of v p) k d).at + 1 = all_has (λ m. m.stamp < m.at + 1) p (get_or (view_of v p) k d) o.later (in_view (get_or (view_of v p) k d) (at_has (view_of v p) k d l)).0 in omega arith)))
+            (λ e. (let a : (get_or (view_of v p) k d).at < n.at = above k d l in let b : (get_or (view_of v p) k d).stamp < (get_or (view_of v p) k d).at + 1 = all_has (λ m. m.stamp < m.at + 1) p (get_or (view_of v p) k d) o.later (in_view (get_or (view_of v p) k d) (at_has (view_of v p) k d l)).0 in omega arith)))
             (λ here. All-push (λ c. is_commit (λ y request. true) c.entry ≡ true → n.stamp < c.at) (view_of v p) n
-                (λ k d l e. (let i : t ≡ u = same_txn t u (sym (mine u) ∙ here) in
-                let low : stamp p u ≤ v.cut = begun_early u (subst (λ z. has_begun p z ≡ true) i begun) none in
-                let high : v.cut < (get_or (view_of v p) k d).at = past_cut (get_or (view_of v p) k d) (at_has (view_of v p) k d l) e in
-                let q : n.stamp ≡ stamp p u = same ∙ ap (stamp p) i in
-                omega arith))
-                (λ e. more))
+            (λ k d l e. (let i : t ≡ u = same_txn t u (sym (mine u) ∙ here) in
+            let low : stamp p u ≤ v.cut = begun_early u (subst (λ z. has_begun p z ≡ true) i begun) none in
+            let high : v.cut < (get_or (view_of v p) k d).at = past_cut (get_or (view_of v p) k d) (at_has (view_of v p) k d l) e in
+            let q : n.stamp ≡ stamp p u = same ∙ ap (stamp p) i in
+            omega arith))
+            (λ e. more))
 
   goes_on : (t : Txn) → is_running p t ≡ true → has_ended (view_of v p) t ≡ false
   goes_on t run = not_true (has_ended (view_of v p) t) (λ h.
