@@ -32,10 +32,16 @@ fn opened(alloc: Global, body: &[u8]) -> Result<Vec<u8>, NoMemory> {
     Ok(text)
 }
 
-/// What the body is refused for behind that head, of five lines.
-fn in_body(alloc: Global, body: &[u8]) -> Result<Option<(u32, Fault)>, NoMemory> {
-    let text = opened(alloc, body)?;
-    Ok(refusal(alloc, text.as_slice()))
+/// The text has this first fault at this line.
+fn refused(rt: &HostRuntime, text: &[u8], line: u32, fault: Fault) -> Result<(), Fail> {
+    assert_eq!(rt; refusal(rt.alloc(), text), Some((line, fault)));
+    Ok(())
+}
+
+/// The body has this first fault behind that head of five lines.
+fn in_body(rt: &HostRuntime, body: &[u8], line: u32, fault: Fault) -> Result<(), Fail> {
+    let text = opened(rt.alloc(), body)?;
+    refused(rt, text.as_slice(), line, fault)
 }
 
 /// So many lines between two others.
@@ -82,121 +88,113 @@ fn writes_in_one_way(rt: HostRuntime) -> Result<(), Fail> {
 }
 
 #[test]
-fn each_fault_at_its_least_input(rt: HostRuntime) -> Result<(), Fail> {
-    let alloc = rt.alloc();
-    assert_eq!(rt; refusal(alloc, b"x"), Some((1, Fault::First)));
-    assert_eq!(rt;
-        refusal(alloc, b"workload 1\nsites"),
-        Some((2, Fault::Token))
-    );
-    assert_eq!(rt;
-        refusal(alloc, b"workload 1\nsites 0 together 1"),
-        Some((2, Fault::Range))
-    );
-    assert_eq!(rt; in_body(alloc, b"program 3")?, Some((6, Fault::Site)));
-    assert_eq!(rt;
-        in_body(alloc, b"program 1\nread c r0")?,
-        Some((7, Fault::Item))
-    );
-    assert_eq!(rt;
-        refusal(alloc, b"workload 1\nsites 1 together 1\nitem a 1 at 1 1"),
-        Some((3, Fault::Twice))
-    );
-    assert_eq!(rt;
-        refusal(alloc, b"workload 1\nsites 1 together 1\nitem a 1 at"),
-        Some((3, Fault::NoCopy))
-    );
-    assert_eq!(rt; refusal(alloc, b"workload 1\nx"), Some((2, Fault::Word)));
-    assert_eq!(rt;
-        in_body(alloc, b"switch stamp by generic after 1")?,
-        Some((6, Fault::Generic))
-    );
-    assert_eq!(rt;
-        in_body(alloc, b"switch lock by suffix after 1")?,
-        Some((6, Fault::Same))
-    );
-    assert_eq!(rt;
-        in_body(alloc, b"stop 1 after 2\nstop 2 after 1")?,
-        Some((7, Fault::Order))
-    );
-    assert_eq!(rt;
-        in_body(alloc, b"return 1 after 1")?,
-        Some((6, Fault::State))
-    );
-    assert_eq!(rt; refusal(alloc, b""), Some((1, Fault::End)));
-    Ok(())
+fn each_fault_of_a_head(rt: HostRuntime) -> Result<(), Fail> {
+    refused(&rt, b"x", 1, Fault::First)?;
+    refused(&rt, b"workload 1\nsites", 2, Fault::Token)?;
+    refused(&rt, b"workload 1\nsites 0 together 1", 2, Fault::Range)?;
+    refused(
+        &rt,
+        b"workload 1\nsites 1 together 1\nitem a 1 at 1 1",
+        3,
+        Fault::Twice,
+    )?;
+    refused(
+        &rt,
+        b"workload 1\nsites 1 together 1\nitem a 1 at",
+        3,
+        Fault::NoCopy,
+    )?;
+    refused(&rt, b"workload 1\nx", 2, Fault::Word)?;
+    refused(&rt, b"", 1, Fault::End)
+}
+
+#[test]
+fn each_fault_of_a_body(rt: HostRuntime) -> Result<(), Fail> {
+    in_body(&rt, b"program 3", 6, Fault::Site)?;
+    in_body(&rt, b"program 1\nread c r0", 7, Fault::Item)?;
+    in_body(&rt, b"switch stamp by generic after 1", 6, Fault::Generic)?;
+    in_body(&rt, b"switch lock by suffix after 1", 6, Fault::Same)?;
+    in_body(&rt, b"stop 1 after 2\nstop 2 after 1", 7, Fault::Order)?;
+    in_body(&rt, b"return 1 after 1", 6, Fault::State)
 }
 
 #[test]
 fn one_too_many_of_each(rt: HostRuntime) -> Result<(), Fail> {
-    let alloc = rt.alloc();
-    let programs = many(alloc, b"", b"program 1\nend\n", 2000, b"program 1\n")?;
-    assert_eq!(rt;
-        in_body(alloc, programs.as_slice())?,
-        Some((4006, Fault::Many))
-    );
-    let statements = many(alloc, b"program 1\n", b"read a r0\n", 32, b"write a 1\n")?;
-    assert_eq!(rt;
-        in_body(alloc, statements.as_slice())?,
-        Some((39, Fault::Many))
-    );
-    let switches = many(
-        alloc,
-        b"",
-        b"switch stamp by suffix after 1\nswitch lock by suffix after 1\n",
+    let programs = many(rt.alloc(), b"", b"program 1\nend\n", 2000, b"program 1\n")?;
+    in_body(&rt, programs.as_slice(), 4006, Fault::Many)?;
+    let statements = many(
+        rt.alloc(),
+        b"program 1\n",
+        b"read a r0\n",
         32,
-        b"switch stamp by suffix after 1\n",
+        b"write a 1\n",
     )?;
-    assert_eq!(rt;
-        in_body(alloc, switches.as_slice())?,
-        Some((70, Fault::Many))
+    in_body(&rt, statements.as_slice(), 39, Fault::Many)?;
+    let (there, back) = (
+        b"switch stamp by suffix after 1\n",
+        b"switch lock by suffix after 1\n",
     );
+    let mut pair = Vec::from_slice(rt.alloc(), there)?;
+    pair.extend_from_slice(back)?;
+    let switches = many(rt.alloc(), b"", pair.as_slice(), 32, there)?;
+    in_body(&rt, switches.as_slice(), 70, Fault::Many)?;
     let events = many(
-        alloc,
+        rt.alloc(),
         b"",
         b"stop 1 after 1\nreturn 1 after 1\n",
         32,
         b"stop 1 after 1\n",
     )?;
-    assert_eq!(rt; in_body(alloc, events.as_slice())?, Some((70, Fault::Many)));
-    Ok(())
+    in_body(&rt, events.as_slice(), 70, Fault::Many)
 }
 
 #[test]
 fn odd_bytes_in_a_comment_and_outside(rt: HostRuntime) -> Result<(), Fail> {
-    let alloc = rt.alloc();
-    assert_eq!(rt; in_body(alloc, b" # \x80\xff\x00\ndone\n")?, None);
-    assert_eq!(rt; in_body(alloc, b"program \xff")?, Some((6, Fault::Token)));
-    assert_eq!(rt; in_body(alloc, b"\xff 1")?, Some((6, Fault::Word)));
-    assert_eq!(rt; in_body(alloc, b"done \x7f")?, Some((6, Fault::Token)));
-    Ok(())
+    in_body(&rt, b" # \x80\xff\x00\n", 7, Fault::End)?;
+    in_body(&rt, b"program \xff", 6, Fault::Token)?;
+    in_body(&rt, b"\xff 1", 6, Fault::Word)?;
+    in_body(&rt, b"done \x7f", 6, Fault::Token)
 }
 
 #[test]
 fn faults_from_left_to_right(rt: HostRuntime) -> Result<(), Fail> {
-    let alloc = rt.alloc();
-    let generic = b"program 1\nread a r0\nend\nswitch valid by generic after 1\ndone\n";
-    assert_eq!(rt; in_body(alloc, generic)?, Some((9, Fault::Generic)));
-    let ninth = b"program 1\nstop if 1 + 1 + 1 + 1 + 1 + 1 + 1 + 1 + 1 < 9999999999999999999";
-    assert_eq!(rt; in_body(alloc, ninth)?, Some((7, Fault::Token)));
-    assert_eq!(rt; refusal(alloc, b"workload 01"), Some((1, Fault::First)));
-    assert_eq!(rt;
-        refusal(alloc, b"workload 1\nsites 1 together 1\nrestarts 0"),
-        Some((3, Fault::Word))
-    );
-    assert_eq!(rt;
-        refusal(alloc, b"workload 2\nsites 1 together 1\nrestarts 4"),
-        Some((3, Fault::Range))
-    );
-    assert_eq!(rt;
-        in_body(alloc, b"program 1\nwrite a 09223372036854775807")?,
-        Some((7, Fault::Token))
-    );
-    assert_eq!(rt;
-        in_body(alloc, b"program 1\nwrite a 9223372036854775808")?,
-        Some((7, Fault::Range))
-    );
-    Ok(())
+    in_body(
+        &rt,
+        b"program 1\nread a r0\nend\nswitch valid by generic after 1\n",
+        9,
+        Fault::Generic,
+    )?;
+    in_body(
+        &rt,
+        b"program 1\nstop if 1 + 1 + 1 + 1 + 1 + 1 + 1 + 1 + 1 < 9999999999999999999",
+        7,
+        Fault::Token,
+    )?;
+    in_body(
+        &rt,
+        b"program 1\nwrite a 09223372036854775807",
+        7,
+        Fault::Token,
+    )?;
+    in_body(
+        &rt,
+        b"program 1\nwrite a 9223372036854775808",
+        7,
+        Fault::Range,
+    )?;
+    refused(&rt, b"workload 01", 1, Fault::First)?;
+    refused(
+        &rt,
+        b"workload 1\nsites 1 together 1\nrestarts 0",
+        3,
+        Fault::Word,
+    )?;
+    refused(
+        &rt,
+        b"workload 2\nsites 1 together 1\nrestarts 4",
+        3,
+        Fault::Range,
+    )
 }
 
 #[test]
@@ -205,19 +203,10 @@ fn each_cut_of_a_small_text(rt: HostRuntime) -> Result<(), Fail> {
     let mut line = 2u32;
     for byte in SMALL {
         if *byte == b'\n' && line < 10 {
-            assert_eq!(rt;
-                refusal(rt.alloc(), text.as_slice()),
-                Some((line, Fault::End))
-            );
-        }
-        text.push(*byte)?;
-        if *byte == b'\n' && line < 10 {
-            assert_eq!(rt;
-                refusal(rt.alloc(), text.as_slice()),
-                Some((line, Fault::End))
-            );
+            refused(&rt, text.as_slice(), line, Fault::End)?;
             line += 1;
         }
+        text.push(*byte)?;
     }
     assert_eq!(rt; line, 10);
     assert_eq!(rt; refusal(rt.alloc(), text.as_slice()), None);
