@@ -24,15 +24,15 @@ use Rattle.raid_legal.specs.InForce.{in_force}
 use Rattle.raid_legal.specs.Legal.{Legal}
 use Rattle.raid_legal.specs.Serial.{RunsInOrder, table_after, first_table}
 use Rattle.raid_rules.specs.Committed.{CommittedEdge, AllOnce, is_before, IsSerialOrder}
-use Rattle.raid_serial.proofs.Model.{Mem}
-use Rattle.raid_serial.proofs.Verdicts.{Com}
+use Rattle.raid_serial.proofs.Model.{Member}
+use Rattle.raid_serial.proofs.Verdicts.{HasCommitted}
 use Rattle.raid_serial.proofs.System.{Hist, CEdge}
 use Rattle.raid_serial.proofs.Theorem.{State}
 use Rattle.raid_serial.proofs.Serial.{or_else, Val, Listing}
 use Rattle.raid_serial.proofs.Values.{commits, reads, finals}
-use Rattle.raid_serial.proofs.Translate.{txn, trans, hist_of, cases_true, not_true, eq_self, rep_hist}
+use Rattle.raid_serial.proofs.Translate.{txn, noted_of, hist_of, cases_true, not_true, eq_self, rep_hist}
 use Rattle.raid_serial.proofs.Real.{com_real, com_model, edge_real}
-use Rattle.raid_serial.proofs.Tamed.{mk, Stands, legal_stands}
+use Rattle.raid_serial.proofs.Tamed.{state_of, Stands, legal_stands}
 use Rattle.raid_serial.proofs.Agree.{outcome_agrees}
 use Rattle.raid_serial.proofs.Lists.{once, order_is_serial}
 use Rattle.raid_serial.proofs.Runs.{wr, none, mark, wrote, number_at, decode, wrote_at, number, writes, value_is, Done, all_done, find_request}
@@ -70,7 +70,7 @@ before_mid (x ∷ xs) u t ts d h = elim (cases_true (x.0 == u.0)) [
 
 module _ (S : ℕ → ℕ) (w : Workload) (p : List RNoted) (d : AllOnce (committed p)) (st : Stands S w p) (dones : (t : Txn) → has_committed p t ≡ true → Done w p t) (order : List Txn) (o : IsSerialOrder p order) where
   abbrev s : State
-  s = mk (hist_of p) (length p) (in_force w p) st.joint st.newer st.since
+  s = state_of (hist_of p) (length p) (in_force w p) st.joint st.newer st.since
 
   abbrev val : List ℕ → ℕ → ℕ
   val xs x = Val (wr p d) (none p d) (number_at p d) xs x
@@ -83,11 +83,11 @@ module _ (S : ℕ → ℕ) (w : Workload) (p : List RNoted) (d : AllOnce (commit
   Tab table back = (x : Item) → table x ≡ Some (decode p d (first_value w x) x.0 (val back x.0))
 
   pub record Before (before : List Txn) (back : List ℕ) : Type 0 where
-    pub mem : (u : ℕ) → Mem u back → has_txn before (txn u) ≡ true
-    pub into : (u : ℕ) → has_txn before (txn u) ≡ true → Mem u back
+    pub mem : (u : ℕ) → Member u back → has_txn before (txn u) ≡ true
+    pub into : (u : ℕ) → has_txn before (txn u) ≡ true → Member u back
     pub list : lists back
 
-  com_of : (before : List Txn) (back : List ℕ) (rest : List Txn) → order ≡ before ++ rest → Before before back → (u : ℕ) → Mem u back → Com (Hist (hist_of p)) u
+  com_of : (before : List Txn) (back : List ℕ) (rest : List Txn) → order ≡ before ++ rest → Before before back → (u : ℕ) → Member u back → HasCommitted (Hist (hist_of p)) u
   com_of before back rest e b u m = com_model (Hist (hist_of p)) p (rep_hist p) u (sym (o.lists (txn u)) ∙ ap (λ xs. has_txn xs (txn u)) e ∙ list_any-append (is_txn (txn u)) before rest ∙ or_left _ _ (b.mem u m))
 
   step : (before : List Txn) (back : List ℕ) (t : Txn) (ts : List Txn) → order ≡ before ++ t ∷ ts → Before before back → Before (before ++ t ∷ []) (t.0 ∷ back)
@@ -96,15 +96,15 @@ module _ (S : ℕ → ℕ) (w : Workload) (p : List RNoted) (d : AllOnce (commit
       all : AllOnce (before ++ t ∷ ts)
       all = subst AllOnce e o.once
 
-      fresh : Mem t.0 back → ⊥
+      fresh : Member t.0 back → ⊥
       fresh m = true≢false (sym (b.mem t.0 m) ∙ once_mid before t ts all)
 
-      sources : (u : ℕ) → CEdge (hist_of p) u t.0 → Mem u back
+      sources : (u : ℕ) → CEdge (hist_of p) u t.0 → Member u back
       sources u c =
           let r : CommittedEdge p (txn u) t = (edge_real (Hist (hist_of p)) p (rep_hist p) u t.0 c.0, com_real (Hist (hist_of p)) p (rep_hist p) u c.1, com_real (Hist (hist_of p)) p (rep_hist p) t.0 c.2) in
           b.into u (before_mid before (txn u) t ts all (subst (λ xs. is_before xs (txn u) t ≡ true) e (o.onward (txn u) t r)))
 
-      mem : (u : ℕ) → Mem u (t.0 ∷ back) → has_txn (before ++ t ∷ []) (txn u) ≡ true
+      mem : (u : ℕ) → Member u (t.0 ∷ back) → has_txn (before ++ t ∷ []) (txn u) ≡ true
       mem u (inl q) = list_any-append (is_txn (txn u)) before (t ∷ []) ∙ right (has_txn before (txn u)) _ (or_left _ _ (eq_self t.0 u (sym q)))
         where
           right : (b c : Bool) → c ≡ true → (b || c) ≡ true
@@ -112,7 +112,7 @@ module _ (S : ℕ → ℕ) (w : Workload) (p : List RNoted) (d : AllOnce (commit
           right false c e = e
       mem u (inr m) = list_any-append (is_txn (txn u)) before (t ∷ []) ∙ or_left _ _ (b.mem u m)
 
-      into : (u : ℕ) → has_txn (before ++ t ∷ []) (txn u) ≡ true → Mem u (t.0 ∷ back)
+      into : (u : ℕ) → has_txn (before ++ t ∷ []) (txn u) ≡ true → Member u (t.0 ∷ back)
       into u h = elim (cases_true (has_txn before (txn u))) [
         | inl q ↦ inr (b.into u q)
         | inr q ↦ inl (sym (eqb-true t.0 u (grind (arith, common_steps, h, q, list_any-append (is_txn (txn u)) before (t ∷ [])))))
@@ -130,7 +130,7 @@ module _ (S : ℕ → ℕ) (w : Workload) (p : List RNoted) (d : AllOnce (commit
       agrees : (x : Item) (v : ℤ) → (dones t c).answers x ≡ Some v → table x ≡ Some v
       agrees x v q =
           let f = (dones t c).seen x v q in
-          let same : val (commits (hist_of f.1)) x.0 ≡ val back x.0 = reads S s st.tame (wr p d) (none p d) (number_at p d) (number p d) (writes p d) back t.0 x.0 (trans f.0) (hist_of f.1) (step before back t ts e b).list (com_of before back (t ∷ ts) e b) (com_model (Hist (hist_of p)) p (rep_hist p) t.0 c) f.2 f.3 in
+          let same : val (commits (hist_of f.1)) x.0 ≡ val back x.0 = reads S s st.tame (wr p d) (none p d) (number_at p d) (number p d) (writes p d) back t.0 x.0 (noted_of f.0) (hist_of f.1) (step before back t ts e b).list (com_of before back (t ∷ ts) e b) (com_model (Hist (hist_of p)) p (rep_hist p) t.0 c) f.2 f.3 in
           tab x ∙ ap Some (ap (decode p d (first_value w x) x.0) (sym same) ∙ sym (value_is p d (first_value w x) x.0 f.1 f.5) ∙ f.4)
 
   next_table : (before : List Txn) (back : List ℕ) (t : Txn) (ts : List Txn) (table : Answers) → order ≡ before ++ t ∷ ts → Before before back → Tab table back → has_committed p t ≡ true → Tab (serially table (program w t)) (t.0 ∷ back)
@@ -144,7 +144,7 @@ module _ (S : ℕ → ℕ) (w : Workload) (p : List RNoted) (d : AllOnce (commit
       RunsInOrder w p table rest × ((x : Item) → table_after w table rest x ≡ Some (value_of w p x))
   run [] before back table e b tab = (tt, λ x. tab x ∙ ap Some (ap (decode p d (first_value w x) x.0) (sym (final x)) ∙ sym (value_is p d (first_value w x) x.0 p (λ n i. i))))
     where
-      whole : (u : ℕ) → Com (Hist (hist_of p)) u → Mem u back
+      whole : (u : ℕ) → HasCommitted (Hist (hist_of p)) u → Member u back
       whole u c = b.into u (ap (λ xs. has_txn xs (txn u)) (sym (append-nil before) ∙ sym e) ∙ o.lists (txn u) ∙ com_real (Hist (hist_of p)) p (rep_hist p) u c)
 
       final : (x : Item) → val (commits (hist_of p)) x.0 ≡ val back x.0

@@ -68,7 +68,7 @@ legal_follows w = by_last (λ h. Legal w h → Follows w (noted_in h)) (λ l t q
         subst (Follows w) (sym (noted_push h e)) (follows_add w (noted_in h) e (rest q.0) (fact w (noted_in h) e q.1))
 
 -- the transactions of a workload are counted from 1, and none where it has no program
-counted : (first many k : ℕ) → has_txn (map txn (count_from first many)) (txn k) ≡ true → (first ≤ k) × (0 < many)
+pub counted : (first many k : ℕ) → has_txn (map txn (count_from first many)) (txn k) ≡ true → (first ≤ k) × (0 < many)
 counted first zero k q = absurd (true≢false (sym q))
 counted first (suc many) k q = (
   elim (cases_true (first == k)) [

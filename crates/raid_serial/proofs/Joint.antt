@@ -25,9 +25,9 @@ use Rattle.raid_serial.proofs.Verdicts.{Kind, lock, stamp}
 use Rattle.raid_serial.proofs.System.{Hist}
 use Rattle.raid_serial.proofs.Theorem.{State, inv}
 use Rattle.raid_serial.proofs.Corollaries.{none_old}
-use Rattle.raid_serial.proofs.Translate.{txn, kd, hist_of, cases_true, eq_self, rep_hist, mem_txn}
+use Rattle.raid_serial.proofs.Translate.{txn, kind_of, hist_of, cases_true, eq_self, rep_hist, mem_txn}
 use Rattle.raid_serial.proofs.Real.{edge_model, run_model, lt_true, true_lt}
-use Rattle.raid_serial.proofs.Tamed.{mk, Now, Stands, legal_stands}
+use Rattle.raid_serial.proofs.Tamed.{state_of, Now, Stands, legal_stands}
 use Rattle.raid_serial.proofs.Force.{legal_spares}
 use Rattle.raid_serial.proofs.Views.{same_tests}
 
@@ -52,13 +52,13 @@ same_any f g keep (t ∷ ts) same = go (keep t) refl (same_any f g keep ts same)
     go true q rest = ap (λ b. b || list_any f (filter keep ts)) (same t q) ∙ ap (λ b. g t || b) rest
     go false q rest = rest
 
-abstract_kind : (kind : RKind) → locks_or_stamps kind ≡ true → (kd kind ≡ lock) ⊎ (kd kind ≡ stamp)
+abstract_kind : (kind : RKind) → locks_or_stamps kind ≡ true → (kind_of kind ≡ lock) ⊎ (kind_of kind ≡ stamp)
 abstract_kind Lock q = inl refl
 abstract_kind Stamp q = inr refl
 abstract_kind Valid q = absurd (true≢false (sym q))
 abstract_kind Graph q = absurd (true≢false (sym q))
 
-either_kind : (a b : RKind) → (locks_or_stamps a || locks_or_stamps b) ≡ true → ((kd a ≡ lock) ⊎ (kd a ≡ stamp)) ⊎ ((kd b ≡ lock) ⊎ (kd b ≡ stamp))
+either_kind : (a b : RKind) → (locks_or_stamps a || locks_or_stamps b) ≡ true → ((kind_of a ≡ lock) ⊎ (kind_of a ≡ stamp)) ⊎ ((kind_of b ≡ lock) ⊎ (kind_of b ≡ stamp))
 either_kind a b q = elim (cases_true (locks_or_stamps a)) [
   | inl e ↦ inl (abstract_kind a e)
   | inr e ↦ inr (abstract_kind b (grind (arith, common_steps, q, e)))
@@ -75,9 +75,9 @@ module _ (w : Workload) (h : List Real) (l : Legal w h) (c : RKind × ℕ) (both
   st = legal_stands w h l
 
   abbrev state : State
-  state = mk (hist_of p) (length p) (in_force w p) st.joint st.newer st.since
+  state = state_of (hist_of p) (length p) (in_force w p) st.joint st.newer st.since
 
-  now : (st.joint ≡ true) × (st.newer ≡ kd c.0) × (st.since ≡ c.1)
+  now : (st.joint ≡ true) × (st.newer ≡ kind_of c.0) × (st.since ≡ c.1)
   now = subst (Now st.joint st.newer st.since) both st.now
 
   spared : (in_force w p).off ≡ []
@@ -88,7 +88,7 @@ module _ (w : Workload) (h : List Real) (l : Legal w h) (c : RKind × ℕ) (both
       none_old S state (inv S st.tame) now.0 t.0
       (run_model (Hist (hist_of p)) p (rep_hist p) t.0 run, λ m. true≢false (sym (mem_txn t.0 (in_force w p).off m) ∙ ap (λ ts. has_txn ts t) spared))
       (λ less. true≢false (sym (lt_true (stamp_in p t) c.1 (let q : st.since ≡ c.1 = now.2 in let r : stamp_in p t < st.since = less in omega arith)) ∙ young))
-      (subst (λ k. ((kd (in_force w p).kind ≡ lock) ⊎ (kd (in_force w p).kind ≡ stamp)) ⊎ ((k ≡ lock) ⊎ (k ≡ stamp))) (sym now.1) (either_kind (in_force w p).kind c.0 kinds))
+      (subst (λ k. ((kind_of (in_force w p).kind ≡ lock) ⊎ (kind_of (in_force w p).kind ≡ stamp)) ⊎ ((k ≡ lock) ⊎ (k ≡ stamp))) (sym now.1) (either_kind (in_force w p).kind c.0 kinds))
       u.0 (path_model p path) (let q : st.since ≡ c.1 = now.2 in let r : stamp_in p u < c.1 = true_lt (stamp_in p u) c.1 old in omega arith)
 
   -- who runs is tied to the time before the switch only by its own beginning

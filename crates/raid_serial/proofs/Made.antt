@@ -35,7 +35,7 @@ use Rattle.raid_legal.proofs.Push.{legal_push}
 use Rattle.raid_serial.proofs.Translate.{Has, not_true}
 use Rattle.raid_serial.proofs.Grants.{has_split}
 use Rattle.raid_rules.proofs.Places.{by_last}
-use Rattle.raid_serial.proofs.Facts.{sort, some_is, none_is, map_some, if_some}
+use Rattle.raid_serial.proofs.Facts.{sort, not_off, some_is, none_is, map_some, if_some}
 
 -- what an allowed entry says of programs
 abbrev pub Made : Workload → List RNoted → Real → Type 0
@@ -119,11 +119,7 @@ module _ (w : Workload) (p : List RNoted) where
   answer_made t request e run m q = answered_made t request (site_refusal w p request) e run m q
 
   free_parts : (t : Txn) → is_free p t ≡ true → (is_running p t ≡ true) × (is_waiting p t ≡ false)
-  free_parts t f = let q = and_parts (is_running p t) (not (is_waiting p t)) f in (q.0, off (is_waiting p t) q.1)
-    where
-      off : (b : Bool) → not b ≡ true → b ≡ false
-      off true e = absurd (true≢false (sym e))
-      off false e = refl
+  free_parts t f = let q = and_parts (is_running p t) (not (is_waiting p t)) f in (q.0, not_off (is_waiting p t) q.1)
 
   free_made : (e : Real) → Free w p e → Made w p e
   free_made (Begin t s) f = tt
@@ -143,11 +139,7 @@ module _ (w : Workload) (p : List RNoted) where
       let s = source (λ (r : Txn × Request). answer_commit w p r.0 r.1) (λ r. is_running p r.0) e p q in
       let r : Txn × Request = s.1 in
       let run : is_running p r.0 ≡ true = s.4 in
-      answer_made r.0 r.1 e run (ws.made s.0 r s.2 s.3 (on (has_ended p r.0) (and_parts (has_begun p r.0) (not (has_ended p r.0)) run).1)) s.5
-    where
-      on : (b : Bool) → not b ≡ true → b ≡ false
-      on true e = absurd (true≢false (sym e))
-      on false e = refl
+      answer_made r.0 r.1 e run (ws.made s.0 r s.2 s.3 (not_off (has_ended p r.0) (and_parts (has_begun p r.0) (not (has_ended p r.0)) run).1)) s.5
 
 -- what a transaction has seen changes only by its Reads
 seen_push : (w : Workload) (p : List RNoted) (e : Real) (t : Txn) (x : Item) → reads_item t x e ≡ false → seen w (add p e) t x ≡ seen w p t x

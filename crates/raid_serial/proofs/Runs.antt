@@ -27,11 +27,11 @@ use Rattle.raid_program.specs.declared.program.Want.TheVariants as wants
 use Rattle.raid_workload.specs.Parts.{program}
 use Rattle.raid_legal.specs.Legal.{Legal}
 use Rattle.raid_rules.specs.Committed.{AllOnce}
-use Rattle.raid_serial.proofs.Model.{Noted, Mem, IsRead, commit}
+use Rattle.raid_serial.proofs.Model.{Noted, Member, IsRead, commit}
 use Rattle.raid_serial.proofs.System.{In}
 use Rattle.raid_serial.proofs.Serial.{Maybe, nothing, just, or_else, Val, Writes}
 use Rattle.raid_serial.proofs.Values.{commits, add as add_model, Tail}
-use Rattle.raid_serial.proofs.Translate.{txn, itm, items_of, tr, trans, hist_of, hist_push, Has, has_any, cases_true, not_true, eq_self, rep_hist, commit_to, holds_mem, read_from}
+use Rattle.raid_serial.proofs.Translate.{txn, item_of, items_of, entry_of, noted_of, hist_of, hist_push, Has, has_any, cases_true, not_true, eq_self, rep_hist, commit_to, holds_mem, read_from}
 use Rattle.raid_serial.proofs.Grants.{has_last, has_before}
 use Rattle.raid_rules.proofs.Places.{by_last}
 use Rattle.raid_serial.proofs.Made.{Made, allowed_made, legal_waits}
@@ -66,17 +66,17 @@ find_commit (m ∷ ms) n t d (inr i) e =
     let f : is_commit_of t m.entry ≡ false = not_true _ (λ b. true≢false (sym (committed_has ms t ∙ h) ∙ once_head m.entry (commits_in ms) t d b)) in
     ap (λ b. cond b (Some m) (find (λ m. is_commit_of t m.entry) ms)) f ∙ find_commit ms n t (once_tail m.entry (commits_in ms) d) i e
 
-first_holds : (x : ℕ) (ps : List (Item × ℤ)) (v : ℤ) → first_of (itm x) ps ≡ Some v → holds (itm x) ps ≡ true
+first_holds : (x : ℕ) (ps : List (Item × ℤ)) (v : ℤ) → first_of (item_of x) ps ≡ Some v → holds (item_of x) ps ≡ true
 first_holds x [] v e = absurd (none_is v e)
 first_holds x (p ∷ ps) v e = elim (cases_true (p.0.0 == x)) [
   | inl q ↦ or_left _ _ q
-  | inr q ↦ (let f : first_of (itm x) ps ≡ Some v = sym (ap (λ b. if b then Some p.1 else first_of (itm x) ps) q) ∙ e in grind (arith, common_steps, first_holds x ps v f))
+  | inr q ↦ (let f : first_of (item_of x) ps ≡ Some v = sym (ap (λ b. if b then Some p.1 else first_of (item_of x) ps) q) ∙ e in grind (arith, common_steps, first_holds x ps v f))
 ]
 
 module _ (p : List RNoted) (d : AllOnce (committed p)) where
   -- what a transaction wrote to an item, who wrote it, and the number of its Commit
   abbrev pub wrote : ℕ → ℕ → Option ℤ
-  wrote t x = option_and_then (λ (n : RNoted). first_of (itm x) (writes_of n.entry)) (find (λ (n : RNoted). is_commit_of (txn t) n.entry) p)
+  wrote t x = option_and_then (λ (n : RNoted). first_of (item_of x) (writes_of n.entry)) (find (λ (n : RNoted). is_commit_of (txn t) n.entry) p)
 
   abbrev pub mark : ℕ → Option ℤ → Maybe
   mark t None = nothing
@@ -96,8 +96,8 @@ module _ (p : List RNoted) (d : AllOnce (committed p)) where
   decode initial x zero = initial
   decode initial x (suc t) = unwrap_or (wrote t x) initial
 
-  pub wrote_at : (n : RNoted) (t x : ℕ) → Has n p → is_commit_of (txn t) n.entry ≡ true → wrote t x ≡ first_of (itm x) (writes_of n.entry)
-  wrote_at n t x i e = ap (λ (o : Option RNoted). option_and_then (λ (n : RNoted). first_of (itm x) (writes_of n.entry)) o) (find_commit p n (txn t) d i e)
+  pub wrote_at : (n : RNoted) (t x : ℕ) → Has n p → is_commit_of (txn t) n.entry ≡ true → wrote t x ≡ first_of (item_of x) (writes_of n.entry)
+  wrote_at n t x i e = ap (λ (o : Option RNoted). option_and_then (λ (n : RNoted). first_of (item_of x) (writes_of n.entry)) o) (find_commit p n (txn t) d i e)
 
   pub number : (a : Noted) (t : ℕ) (ys : List ℕ) → In a (hist_of p) → a.entry ≡ commit t ys → a.at ≡ number_at t
   number a t ys i e =
@@ -109,14 +109,14 @@ module _ (p : List RNoted) (d : AllOnce (committed p)) where
   marked t v None e = absurd (cc e)
   marked t v (Some z) e = (z, refl)
 
-  written_items : (e : Real) (t x : ℕ) (ys : List ℕ) (v : ℤ) → tr e ≡ commit t ys → first_of (itm x) (writes_of e) ≡ Some v → Mem x ys
-  written_items (Commit u request applied) t x ys v q f = let b : items_of request.writes ≡ ys = cc q in subst (Mem x) b (holds_mem x request.writes (first_holds x request.writes v f))
+  written_items : (e : Real) (t x : ℕ) (ys : List ℕ) (v : ℤ) → entry_of e ≡ commit t ys → first_of (item_of x) (writes_of e) ≡ Some v → Member x ys
+  written_items (Commit u request applied) t x ys v q f = let b : items_of request.writes ≡ ys = cc q in subst (Member x) b (holds_mem x request.writes (first_holds x request.writes v f))
   written_items other t x ys v q f = absurd (cc q)
 
-  pub writes : (a : Noted) (t x : ℕ) (ys : List ℕ) → In a (hist_of p) → a.entry ≡ commit t ys → Writes wr none number_at t x → Mem x ys
+  pub writes : (a : Noted) (t x : ℕ) (ys : List ℕ) → In a (hist_of p) → a.entry ≡ commit t ys → Writes wr none number_at t x → Member x ys
   writes a t x ys i e w =
       let o = (rep_hist p).out a i in
-      let q : tr (o.0).entry ≡ commit t ys = sym (ap (λ z. z.entry) o.2) ∙ e in
+      let q : entry_of (o.0).entry ≡ commit t ys = sym (ap (λ z. z.entry) o.2) ∙ e in
       let z = marked t w.0 (wrote t x) w.1 in
       written_items (o.0).entry t x ys z.0 q (sym (wrote_at o.0 t x o.1 (commit_to (o.0).entry t ys q)) ∙ z.1)
 
@@ -125,35 +125,35 @@ module _ (p : List RNoted) (d : AllOnce (committed p)) where
   decode_step initial old t x k None e h = h
   decode_step initial old t x k (Some v) e h = sym (ap (λ q. unwrap_or q initial) e)
 
-  value_step : (initial : ℤ) (q : List RNoted) (n : RNoted) (x : ℕ) → Has n p → value initial q (itm x) ≡ decode initial x (Val wr none number_at (commits (hist_of q)) x) →
-      unwrap_or (first_of (itm x) (writes_of n.entry)) (value initial q (itm x)) ≡ decode initial x (Val wr none number_at (add_model (tr n.entry) (commits (hist_of q))) x)
+  value_step : (initial : ℤ) (q : List RNoted) (n : RNoted) (x : ℕ) → Has n p → value initial q (item_of x) ≡ decode initial x (Val wr none number_at (commits (hist_of q)) x) →
+      unwrap_or (first_of (item_of x) (writes_of n.entry)) (value initial q (item_of x)) ≡ decode initial x (Val wr none number_at (add_model (entry_of n.entry) (commits (hist_of q))) x)
   value_step initial q n x i h = go n.entry refl
     where
-      go : (e : Real) → n.entry ≡ e → unwrap_or (first_of (itm x) (writes_of e)) (value initial q (itm x)) ≡ decode initial x (Val wr none number_at (add_model (tr e) (commits (hist_of q))) x)
+      go : (e : Real) → n.entry ≡ e → unwrap_or (first_of (item_of x) (writes_of e)) (value initial q (item_of x)) ≡ decode initial x (Val wr none number_at (add_model (entry_of e) (commits (hist_of q))) x)
       go (Commit u request applied) s =
-          let w : wrote u.0 x ≡ first_of (itm x) request.writes = wrote_at n u.0 x i (ap (is_commit_of u) s ∙ eq_self u.0 u.0 refl) ∙ ap (λ e. first_of (itm x) (writes_of e)) s in
-          subst (λ o. unwrap_or o (value initial q (itm x)) ≡ decode initial x (or_else (mark u.0 (wrote u.0 x)) (Val wr none number_at (commits (hist_of q)) x))) w (decode_step initial (value initial q (itm x)) u.0 x (Val wr none number_at (commits (hist_of q)) x) (wrote u.0 x) refl h)
+          let w : wrote u.0 x ≡ first_of (item_of x) request.writes = wrote_at n u.0 x i (ap (is_commit_of u) s ∙ eq_self u.0 u.0 refl) ∙ ap (λ e. first_of (item_of x) (writes_of e)) s in
+          subst (λ o. unwrap_or o (value initial q (item_of x)) ≡ decode initial x (or_else (mark u.0 (wrote u.0 x)) (Val wr none number_at (commits (hist_of q)) x))) w (decode_step initial (value initial q (item_of x)) u.0 x (Val wr none number_at (commits (hist_of q)) x) (wrote u.0 x) refl h)
       go other s = h
 
-  pub value_is : (initial : ℤ) (x : ℕ) (q : List RNoted) → ((n : RNoted) → Has n q → Has n p) → value initial q (itm x) ≡ decode initial x (Val wr none number_at (commits (hist_of q)) x)
-  value_is initial x = by_last_noted (λ q. ((n : RNoted) → Has n q → Has n p) → value initial q (itm x) ≡ decode initial x (Val wr none number_at (commits (hist_of q)) x)) (λ sub. refl) more
+  pub value_is : (initial : ℤ) (x : ℕ) (q : List RNoted) → ((n : RNoted) → Has n q → Has n p) → value initial q (item_of x) ≡ decode initial x (Val wr none number_at (commits (hist_of q)) x)
+  value_is initial x = by_last_noted (λ q. ((n : RNoted) → Has n q → Has n p) → value initial q (item_of x) ≡ decode initial x (Val wr none number_at (commits (hist_of q)) x)) (λ sub. refl) more
     where
-      more : (q : List RNoted) (n : RNoted) → (((n : RNoted) → Has n q → Has n p) → value initial q (itm x) ≡ decode initial x (Val wr none number_at (commits (hist_of q)) x)) → ((m : RNoted) → Has m (q ++ n ∷ []) → Has m p) →
-          value initial (q ++ n ∷ []) (itm x) ≡ decode initial x (Val wr none number_at (commits (hist_of (q ++ n ∷ []))) x)
+      more : (q : List RNoted) (n : RNoted) → (((n : RNoted) → Has n q → Has n p) → value initial q (item_of x) ≡ decode initial x (Val wr none number_at (commits (hist_of q)) x)) → ((m : RNoted) → Has m (q ++ n ∷ []) → Has m p) →
+          value initial (q ++ n ∷ []) (item_of x) ≡ decode initial x (Val wr none number_at (commits (hist_of (q ++ n ∷ []))) x)
       more q n h sub =
-          value_push initial q n (itm x)
+          value_push initial q n (item_of x)
           ∙ value_step initial q n x (sub n (has_last q n)) (h (λ m i. sub m (has_before q m n i)))
           ∙ ap (λ z. decode initial x (Val wr none number_at (commits z) x)) (sym (hist_push q n))
 
 -- where a transaction read what it has seen of an item
 abbrev pub Witness : Workload → List RNoted → Txn → Item → ℤ → Type 0
-Witness w p t x v = (a : RNoted) × (q : List RNoted) × Tail (trans a) (hist_of q) (hist_of p) × IsRead (trans a) t.0 x.0 × (value_of w q x ≡ v) × ((n : RNoted) → Has n q → Has n p)
+Witness w p t x v = (a : RNoted) × (q : List RNoted) × Tail (noted_of a) (hist_of q) (hist_of p) × IsRead (noted_of a) t.0 x.0 × (value_of w q x ≡ v) × ((n : RNoted) → Has n q → Has n p)
 
 widen : (w : Workload) (p : List RNoted) (n : RNoted) (t : Txn) (x : Item) (v : ℤ) → Witness w p t x v → Witness w (p ++ n ∷ []) t x v
-widen w p n t x v s = (s.0, s.1, subst (Tail (trans s.0) (hist_of s.1)) (sym (hist_push p n)) (inr s.2), s.3, s.4, λ m i. has_before p m n (s.5 m i))
+widen w p n t x v s = (s.0, s.1, subst (Tail (noted_of s.0) (hist_of s.1)) (sym (hist_push p n)) (inr s.2), s.3, s.4, λ m i. has_before p m n (s.5 m i))
 
 seen_step : (w : Workload) (p : List RNoted) (n : RNoted) (t : Txn) (x : Item) (v : ℤ) (b : Bool) → reads_item t x n.entry ≡ b → (seen w p t x ≡ Some v → Witness w p t x v) → (if b then Some (value_of w p x) else seen w p t x) ≡ Some v → Witness w (p ++ n ∷ []) t x v
-seen_step w p n t x v true e h q = (n, p, subst (Tail (trans n) (hist_of p)) (sym (hist_push p n)) (inl (refl, refl)), read_from n.entry t.0 x.0 e, some_is (value_of w p x) v q, λ m i. has_before p m n i)
+seen_step w p n t x v true e h q = (n, p, subst (Tail (noted_of n) (hist_of p)) (sym (hist_push p n)) (inl (refl, refl)), read_from n.entry t.0 x.0 e, some_is (value_of w p x) v q, λ m i. has_before p m n i)
 seen_step w p n t x v false e h q = widen w p n t x v (h q)
 
 pub seen_from : (w : Workload) (t : Txn) (x : Item) (v : ℤ) (p : List RNoted) → seen w p t x ≡ Some v → Witness w p t x v

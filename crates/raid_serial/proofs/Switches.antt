@@ -42,6 +42,7 @@ use Rattle.raid_legal.proofs.Push.{legal_push, each_push}
 use Rattle.raid_serial.proofs.Translate.{txn, cases_true, eq_self, not_true}
 use Rattle.raid_serial.proofs.Facts.{Fact, fact, each_grants, map_some, map_none, find_some, none_is, some_is}
 use Rattle.raid_serial.proofs.Tamed.{keep_txn}
+use Rattle.raid_serial.proofs.Attempts.{counted}
 use Rattle.raid_serial.proofs.Force.{in_force_push}
 use Rattle.raid_serial.proofs.Says.{Caused, Says, says, homes_up, off_comes}
 
@@ -134,16 +135,9 @@ filter_once f (x ∷ xs) o = go (f x) (filter_once f xs o.1)
     go true rest = (not_true (has_txn (filter f xs) x) (λ h. true≢false (sym (filter_member f xs x h).0 ∙ o.0)), rest)
     go false rest = rest
 
-counted_past : (first many k : ℕ) → has_txn (map txn (count_from first many)) (txn k) ≡ true → first ≤ k
-counted_past first zero k q = absurd (true≢false (sym q))
-counted_past first (suc many) k q = elim (cases_true (first == k)) [
-  | inl e ↦ omega (arith, eqb-true first k e)
-  | inr e ↦ omega (arith, counted_past (first + 1) many k (grind (arith, common_steps, q, e)))
-]
-
 counted_once : (first many : ℕ) → AllOnce (map txn (count_from first many))
 counted_once first zero = tt
-counted_once first (suc many) = (not_true (has_txn (map txn (count_from (first + 1) many)) (txn first)) (λ h. omega (arith, counted_past (first + 1) many first h)), counted_once (first + 1) many)
+counted_once first (suc many) = (not_true (has_txn (map txn (count_from (first + 1) many)) (txn first)) (λ h. omega (arith, (counted (first + 1) many first h).0)), counted_once (first + 1) many)
 
 -- what entries do to what is in force
 turned_end : (f : InForce) (next : Option (RKind × ℕ)) → ((turn_end f next).switches ≡ f.switches) × ((turn_end f next).off ≡ f.off)

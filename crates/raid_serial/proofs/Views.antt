@@ -26,10 +26,10 @@ use Rattle.raid_legal.specs.Legal.{Legal}
 use Rattle.raid_serial.proofs.System.{Hist, View as InView}
 use Rattle.raid_serial.proofs.Theorem.{State, inv}
 use Rattle.raid_serial.proofs.Corollaries.{backward_in, backward_out}
-use Rattle.raid_serial.proofs.Translate.{txn, nums, Has, contains_has, has_any, any_has, cases_true, not_true, hist_of, rep_hist, mem_txn}
+use Rattle.raid_serial.proofs.Translate.{txn, numbers_of, Has, contains_has, has_any, any_has, cases_true, not_true, hist_of, rep_hist, mem_txn}
 use Rattle.raid_serial.proofs.Real.{filter_has, has_filter, true_lt, rep_view, run_model}
 use Rattle.raid_serial.proofs.Backward.{backward_real, backward_model}
-use Rattle.raid_serial.proofs.Tamed.{mk, Stands, legal_stands}
+use Rattle.raid_serial.proofs.Tamed.{state_of, Stands, legal_stands}
 use Rattle.raid_serial.proofs.Ordered.{Ordered, legal_ordered, all_has, own_begin}
 
 pub same_tests : (a b : Bool) → (a ≡ true → b ≡ true) → (b ≡ true → a ≡ true) → a ≡ b
@@ -41,8 +41,8 @@ same_tests false false f g = refl
 pub backward_over_view : (w : Workload) (h : List Real) → Legal w h → (t : Txn) → is_running (noted_in h) t ≡ true → has_txn (in_force w (noted_in h)).off t ≡ false → is_backward (view_of (in_force w (noted_in h)).view (noted_in h)) t ≡ is_backward (noted_in h) t
 backward_over_view w h l t run free =
     same_tests (is_backward (view_of v p) t) (is_backward p t)
-    (λ b. backward_real (Hist (hist_of p)) p (rep_hist p) t.0 (backward_out state t.0 (backward_model (InView (hist_of p) v.cut (nums v.keep)) (view_of v p) (rep_view v p) t.0 b)))
-    (λ b. backward_real (InView (hist_of p) v.cut (nums v.keep)) (view_of v p) (rep_view v p) t.0 (backward_in S state (inv S st.tame) t.0 (run_model (Hist (hist_of p)) p (rep_hist p) t.0 run, λ m. true≢false (sym (mem_txn t.0 (in_force w p).off m) ∙ free)) (backward_model (Hist (hist_of p)) p (rep_hist p) t.0 b)))
+    (λ b. backward_real (Hist (hist_of p)) p (rep_hist p) t.0 (backward_out state t.0 (backward_model (InView (hist_of p) v.cut (numbers_of v.keep)) (view_of v p) (rep_view v p) t.0 b)))
+    (λ b. backward_real (InView (hist_of p) v.cut (numbers_of v.keep)) (view_of v p) (rep_view v p) t.0 (backward_in S state (inv S st.tame) t.0 (run_model (Hist (hist_of p)) p (rep_hist p) t.0 run, λ m. true≢false (sym (mem_txn t.0 (in_force w p).off m) ∙ free)) (backward_model (Hist (hist_of p)) p (rep_hist p) t.0 b)))
   where
     p : List RNoted
     p = noted_in h
@@ -57,7 +57,7 @@ backward_over_view w h l t run free =
     st = legal_stands w h l
 
     state : State
-    state = mk (hist_of p) (length p) (in_force w p) st.joint st.newer st.since
+    state = state_of (hist_of p) (length p) (in_force w p) st.joint st.newer st.since
 
 pub at_has : (p : List RNoted) (k : ℕ) (d : RNoted) → k < length p → Has (get_or p k d) p
 at_has p k d l = contains_has p (get_or p k d) k l (go p k d l)
