@@ -5,6 +5,7 @@ use raid_base::{Duplicate, Kind, Listed, NoMemory, Placement, Sites};
 use raid_tokens::Fault;
 use raid_workload::placement;
 use std::alloc::Global;
+use std::process::Abort;
 use std::test::Fail;
 
 /// A text of one site, opened `lock native`, with one program.
@@ -33,13 +34,23 @@ fn opened(alloc: Global, body: &[u8]) -> Result<Vec<u8>, NoMemory> {
 }
 
 /// The text has this first fault at this line.
-fn refused(rt: &HostRuntime, text: &[u8], line: u32, fault: Fault) -> Result<(), Fail> {
+fn refused<R: Abort + AllocGlobal>(
+    rt: &R,
+    text: &[u8],
+    line: u32,
+    fault: Fault,
+) -> Result<(), Fail> {
     assert_eq!(rt; refusal(rt.alloc(), text), Some((line, fault)));
     Ok(())
 }
 
 /// The body has this first fault behind that head of five lines.
-fn in_body(rt: &HostRuntime, body: &[u8], line: u32, fault: Fault) -> Result<(), Fail> {
+fn in_body<R: Abort + AllocGlobal>(
+    rt: &R,
+    body: &[u8],
+    line: u32,
+    fault: Fault,
+) -> Result<(), Fail> {
     let text = opened(rt.alloc(), body)?;
     refused(rt, text.as_slice(), line, fault)
 }
