@@ -1,5 +1,5 @@
 -- At most one attempt at each program has a Commit.
-use Rattle.std.proofs.Common.{◌≡◌, ℕ, zero, suc, ◌+◌, ◌-◌, ◌*◌, ◌/◌, ◌%◌, ◌<◌, ◌≤◌, ◌⊎◌, inl, inr, Bool, true, false, not, ◌&&◌, ◌||◌, ◌==◌, nat_lt, List, [], ◌∷◌, ◌++◌, length, map, arith, sym, ◌∙◌, ap, subst, refl}
+use Rattle.std.proofs.Common.{◌≡◌, ℕ, zero, suc, ◌+◌, ◌-◌, ◌*◌, ◌/◌, ◌%◌, ◌<◌, ◌≤◌, ◌⊎◌, inl, inr, true, not, ◌&&◌, ◌==◌, nat_lt, List, [], ◌∷◌, ◌++◌, length, map, arith, sym, ◌∙◌, ap, subst, refl}
 use Rattle.std.specs.List.{list_any}
 use Rattle.std.proofs.lemmas.Bool.{true≢false, and_parts, or_left, eqb-true}
 use Rattle.std.proofs.lemmas.Grind.{common_steps}
@@ -7,21 +7,21 @@ use Rattle.std.proofs.lemmas.Nat.{div-mul-add}
 use Rattle.std.proofs.lemmas.List.Folds.{list_any-append}
 use Rattle.raid_base.specs.declared.names.Txn.{Txn}
 use Rattle.raid_base.specs.declared.entry.Entry.{Entry as Real}
-use Rattle.raid_base.specs.declared.entry.Entry.TheVariants.{Begin, Read, Wait, Commit, Abort, Ack}
+use Rattle.raid_base.specs.declared.entry.Entry.TheVariants.{Begin, Commit, Abort}
 use Rattle.raid_base.specs.declared.entry.Noted.{Noted as RNoted}
 use Rattle.raid_base.specs.Names.{is_txn, has_txn, program_of, attempt_of}
 use Rattle.raid_workload.specs.declared.workload.Workload.{Workload}
 use Rattle.raid_workload.specs.Parts.{txns, home, count_from}
 use Rattle.raid_rules.specs.Entries.{is_begin_of, is_abort_of, is_commit_of}
 use Rattle.raid_rules.specs.History.{noted as noted_in, add, next, stamp, has_begun, has_committed, has_aborted}
-use Rattle.raid_rules.specs.Order.{is_of, is_seen}
+use Rattle.raid_rules.specs.Order.{is_of}
 use Rattle.raid_rules.proofs.Push.{same_txn, has_begun_push, noted_push}
 use Rattle.raid_legal.specs.Seen.{attempt, previous, again, is_restart, is_restartable, has_down_after}
 use Rattle.raid_legal.specs.Legal.{Legal}
 use Rattle.raid_legal.proofs.Push.{legal_push}
 use Rattle.raid_serial.proofs.System.{Hist}
 use Rattle.raid_serial.proofs.Theorem.{inv}
-use Rattle.raid_serial.proofs.Translate.{txn, Has, has_any, any_has, cases_true, hist_of, rep_hist}
+use Rattle.raid_serial.proofs.Translate.{txn, has_any, any_has, cases_true, hist_of, rep_hist}
 use Rattle.raid_serial.proofs.Real.{com_model, ab_model}
 use Rattle.raid_serial.proofs.Facts.{Fact, fact}
 use Rattle.raid_rules.proofs.Places.{by_last}

@@ -1,8 +1,7 @@
 -- Backward transactions: the real ones and the abstract ones.
-use Rattle.std.proofs.Common.{◌≡◌, ℕ, ◌<◌, Bool, true, false, not, ◌&&◌, ◌==◌, nat_lt, List, arith, sym, ◌∙◌, ap, subst, refl}
+use Rattle.std.proofs.Common.{◌≡◌, ℕ, ◌<◌, Bool, true, not, ◌&&◌, ◌==◌, nat_lt, List, arith, sym, ◌∙◌, ap, subst, refl}
 use Rattle.std.specs.List.{list_any}
 use Rattle.std.proofs.lemmas.Bool.{true≢false, and_parts, and_from, eqb-true}
-use Rattle.raid_base.specs.declared.names.Txn.{Txn}
 use Rattle.raid_base.specs.declared.names.Item.{Item}
 use Rattle.raid_base.specs.declared.entry.Entry.{Entry as Real}
 use Rattle.raid_base.specs.declared.entry.Entry.TheVariants.{Read, Commit}
@@ -10,7 +9,7 @@ use Rattle.raid_base.specs.declared.entry.Noted.{Noted as RNoted}
 use Rattle.raid_base.specs.Names.{is_txn, holds}
 use Rattle.raid_rules.specs.Entries.{is_read, is_commit}
 use Rattle.raid_rules.specs.Views.{is_backward, is_overwrite}
-use Rattle.raid_serial.proofs.Model.{read, commit, Noted, Member, IsRead, IsWrite}
+use Rattle.raid_serial.proofs.Model.{read, commit, Noted, Member, IsWrite}
 use Rattle.raid_serial.proofs.Corollaries.{BackwardIn}
 use Rattle.raid_serial.proofs.Translate.{txn, item_of, items_of, entry_of, noted_of, has_any, any_has, not_true, eq_self, holds_mem, Rep}
 use Rattle.raid_serial.proofs.Real.{lt_true, true_lt}

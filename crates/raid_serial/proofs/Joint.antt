@@ -1,5 +1,5 @@
 -- Where one of two controllers in force locks or stamps, only transactions from before the switch hold up its end.
-use Rattle.std.proofs.Common.{◌≡◌, ℕ, ◌<◌, ◌⊎◌, inl, inr, Bool, true, false, not, ◌||◌, cond, nat_lt, List, [], ◌∷◌, length, arith, sym, ◌∙◌, ap, subst, refl, Option, Some, None}
+use Rattle.std.proofs.Common.{◌≡◌, ℕ, ◌<◌, ◌⊎◌, inl, inr, Bool, true, false, not, ◌||◌, cond, nat_lt, List, [], ◌∷◌, length, arith, sym, ◌∙◌, ap, subst, refl, Some}
 use Rattle.std.specs.Prelude.{is_some}
 use Rattle.std.specs.List.{list_any, filter}
 use Rattle.std.proofs.lemmas.Bool.{true≢false, or_left}
@@ -20,8 +20,8 @@ use Rattle.raid_legal.specs.InForce.{in_force, is_tied, end_due, is_over}
 use Rattle.raid_legal.specs.Legal.{Legal}
 use Rattle.raid_serial.specs.Kinds.{locks_or_stamps}
 use Rattle.raid_serial.proofs.Graph.{Reach, one, cons}
-use Rattle.raid_serial.proofs.Model.{Noted, Edge}
-use Rattle.raid_serial.proofs.Verdicts.{Kind, lock, stamp}
+use Rattle.raid_serial.proofs.Model.{Edge}
+use Rattle.raid_serial.proofs.Verdicts.{lock, stamp}
 use Rattle.raid_serial.proofs.System.{Hist}
 use Rattle.raid_serial.proofs.Theorem.{State, inv}
 use Rattle.raid_serial.proofs.Corollaries.{none_old}

@@ -1,22 +1,21 @@
 -- One kind alone: the order that it gives the edges.
-use Rattle.std.proofs.Common.{◌≡◌, ℕ, zero, suc, ◌+◌, ◌<◌, ◌≤◌, ◌⊎◌, inl, inr, Bool, true, false, ◌||◌, cond, if◌then◌else◌, nat_lt, List, [], ◌∷◌, ◌++◌, length, get_or, fold, arith, sym, ◌∙◌, ap, subst, refl, Option, Some, None}
+use Rattle.std.proofs.Common.{◌≡◌, ℕ, ◌+◌, ◌<◌, ◌≤◌, ◌⊎◌, inl, inr, Bool, true, false, ◌||◌, cond, if◌then◌else◌, List, [], ◌∷◌, ◌++◌, length, get_or, fold, arith, sym, ◌∙◌, ap, subst, refl, None}
 use Rattle.std.specs.Prelude.{slice_get}
 use Rattle.std.specs.List.{All, list_any, filter}
-use Rattle.std.proofs.lemmas.Bool.{true≢false, or_left}
+use Rattle.std.proofs.lemmas.Bool.{true≢false}
 use Rattle.std.proofs.lemmas.Grind.{common_steps}
 use Rattle.std.proofs.lemmas.List.Elements.{All-head, All-tail}
 use Rattle.raid_base.specs.declared.names.Txn.{Txn}
 use Rattle.raid_base.specs.declared.entry.Entry.{Entry as Real}
-use Rattle.raid_base.specs.declared.entry.Entry.TheVariants.{Begin, Read, Wait, Commit, Abort, Ack, SwitchOn, SwitchEnd, Down, Up, Clear}
+use Rattle.raid_base.specs.declared.entry.Entry.TheVariants.{Read, Commit, SwitchOn, SwitchEnd}
 use Rattle.raid_base.specs.declared.entry.Noted.{Noted as RNoted}
-use Rattle.raid_base.specs.declared.verdict.Kind.{Kind as RKind}
-use Rattle.raid_base.specs.declared.verdict.Kind.TheVariants.{Lock, Stamp, Valid, Graph}
+use Rattle.raid_base.specs.declared.verdict.Kind.TheVariants.{Lock, Stamp, Valid}
 use Rattle.raid_base.specs.declared.verdict.Verdict.TheVariants as verdicts
 use Rattle.raid_workload.specs.declared.workload.Workload.{Workload}
 use Rattle.raid_rules.specs.Committed.{CommittedEdge}
 use Rattle.raid_rules.specs.Conflict.{Edge as REdge}
 use Rattle.raid_rules.specs.Entries.{is_commit, is_commit_of}
-use Rattle.raid_rules.specs.History.{noted as noted_in, add, next, number_of, commit_number, stamp as stamp_in, has_begun, has_committed, is_running}
+use Rattle.raid_rules.specs.History.{noted as noted_in, add, next, commit_number, stamp as stamp_in, is_running}
 use Rattle.raid_rules.specs.Verdicts.{Question, reading, writing, verdict_of}
 use Rattle.raid_rules.specs.Views.{whole, is_in, view_of}
 use Rattle.raid_rules.proofs.Places.{by_last}
@@ -24,10 +23,10 @@ use Rattle.raid_rules.proofs.Push.{noted_push}
 use Rattle.raid_legal.specs.InForce.{InForce, in_force, opening, turn, turn_end, verdict}
 use Rattle.raid_legal.specs.Legal.{Legal}
 use Rattle.raid_legal.proofs.Push.{legal_push}
-use Rattle.raid_serial.proofs.Graph.{Reach, one}
-use Rattle.raid_serial.proofs.Model.{Entry, read, commit, Noted, Member, Act, Edge, New, Grows, ActionOf, edge_last, edge_none}
-use Rattle.raid_serial.proofs.Verdicts.{lock, stamp, valid, HasCommitted, Run, Grant, Law, Promise, below, invalid}
-use Rattle.raid_serial.proofs.System.{In, Hist, View, Live, CEdge, Base, facts, grows, view_path}
+use Rattle.raid_serial.proofs.Graph.{one}
+use Rattle.raid_serial.proofs.Model.{Entry, commit, Noted, Member, Act, Edge, ActionOf, edge_last, edge_none}
+use Rattle.raid_serial.proofs.Verdicts.{lock, stamp, valid, HasCommitted, Run, Grant, Promise, below, invalid}
+use Rattle.raid_serial.proofs.System.{In, Hist, Live, CEdge, Base, facts, grows, view_path}
 use Rattle.raid_serial.proofs.Theorem.{inv}
 use Rattle.raid_serial.proofs.Translate.{txn, numbers_of, items_of, entry_of, noted_of, kind_of, hist_of, hist_push, Has, cases_true, rep_hist, commit_from}
 use Rattle.raid_serial.proofs.Real.{run_model, edge_model, com_model}

@@ -1,6 +1,6 @@
 -- A legal history is in order, and each transaction that it names has its Begin there.
-use Rattle.std.proofs.Common.{◌≡◌, ℕ, ◌+◌, ◌<◌, ◌⊎◌, inl, inr, Bool, true, false, not, ◌&&◌, ◌||◌, ◌==◌, if◌then◌else◌, List, [], ◌∷◌, ◌++◌, length, get_or, arith, sym, ◌∙◌, ap, subst, refl, length-append}
-use Rattle.std.specs.List.{All, AllPairs}
+use Rattle.std.proofs.Common.{◌≡◌, ℕ, ◌+◌, ◌<◌, ◌⊎◌, inl, inr, Bool, true, false, not, ◌&&◌, ◌||◌, if◌then◌else◌, List, [], ◌∷◌, ◌++◌, length, get_or, arith, sym, ◌∙◌, ap, subst, refl, length-append}
+use Rattle.std.specs.List.{All}
 use Rattle.std.proofs.lemmas.Bool.{true≢false, and_parts, or_left}
 use Rattle.std.proofs.lemmas.Grind.{common_steps}
 use Rattle.std.proofs.lemmas.List.Elements.{All-push}
@@ -8,14 +8,14 @@ use Rattle.std.proofs.lemmas.List.Folds.{list_any_at}
 use Rattle.raid_base.specs.declared.names.Txn.{Txn}
 use Rattle.raid_base.specs.declared.names.Site.{Site}
 use Rattle.raid_base.specs.declared.entry.Entry.{Entry as Real}
-use Rattle.raid_base.specs.declared.entry.Entry.TheVariants.{Begin, Read, Wait, Commit, Abort, Ack, SwitchOn, SwitchEnd, Down, Up, Clear}
+use Rattle.raid_base.specs.declared.entry.Entry.TheVariants.{Begin, Read, Wait, Commit, Abort, Ack, Down}
 use Rattle.raid_base.specs.declared.entry.Noted.{Noted as RNoted}
 use Rattle.raid_base.specs.Names.{is_txn, is_site, has_site}
 use Rattle.raid_workload.specs.declared.workload.Workload.{Workload}
 use Rattle.raid_rules.specs.Entries.{is_begin_of}
 use Rattle.raid_rules.specs.History.{noted as noted_in, add, next, stamp, stamp_at, has_begun, has_ended, is_running}
 use Rattle.raid_rules.specs.Sessions.{owes, turn_owed}
-use Rattle.raid_rules.specs.Order.{is_of, is_seen, IsInOrder, IsWhole, Follows, AgreesOn, BeginsAtStamp}
+use Rattle.raid_rules.specs.Order.{is_of, IsInOrder, IsWhole, Follows}
 use Rattle.raid_rules.proofs.Push.{same_txn, whole_push, in_order_push, number_of_push, has_begun_push, owes_push, noted_push}
 use Rattle.raid_legal.specs.Legal.{Legal}
 use Rattle.raid_legal.proofs.Push.{legal_push}

@@ -1,8 +1,7 @@
 -- What an allowed entry says of sources, causes and switches.
-use Rattle.std.proofs.Common.{◌≡◌, ℕ, ◌+◌, ◌⊎◌, inl, inr, Bool, true, false, not, ◌&&◌, ◌||◌, ◌==◌, cond, if◌then◌else◌, nat_le, List, [], ◌∷◌, sym, ◌∙◌, ap, subst, refl, Option, Some, None}
-use Rattle.std.specs.Prelude.{find, slice_get, option_map, option_and_then}
-use Rattle.std.specs.List.{list_any}
-use Rattle.std.proofs.lemmas.Bool.{true≢false, and_parts, or_left}
+use Rattle.std.proofs.Common.{◌≡◌, ℕ, ◌+◌, ◌⊎◌, inl, inr, Bool, true, false, not, ◌&&◌, ◌==◌, if◌then◌else◌, nat_le, List, [], ◌∷◌, sym, ◌∙◌, ap, subst, refl, Option, Some, None}
+use Rattle.std.specs.Prelude.{find, slice_get, option_and_then}
+use Rattle.std.proofs.lemmas.Bool.{or_left}
 use Rattle.raid_base.specs.declared.names.Txn.{Txn}
 use Rattle.raid_base.specs.declared.names.Item.{Item}
 use Rattle.raid_base.specs.declared.names.Site.{Site}

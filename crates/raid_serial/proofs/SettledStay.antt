@@ -1,18 +1,16 @@
 -- Who is settled stays so.
-use Rattle.std.proofs.Common.{◌≡◌, ℕ, ◌+◌, ◌<◌, ◌⊎◌, inl, inr, Bool, true, false, not, ◌&&◌, ◌||◌, ◌==◌, List, [], ◌∷◌, ◌++◌, length, sym, ◌∙◌, ap, subst, refl, append-nil, append_assoc}
-use Rattle.std.specs.List.{list_any}
+use Rattle.std.proofs.Common.{◌≡◌, inl, inr, Bool, true, false, not, List, [], ◌∷◌, ◌++◌, length, sym, ◌∙◌, subst, refl, append-nil, append_assoc}
 use Rattle.std.proofs.lemmas.Bool.{true≢false, and_parts, or_left}
-use Rattle.std.proofs.lemmas.Grind.{common_steps}
 use Rattle.std.proofs.lemmas.List.Folds.{list_any-append}
 use Rattle.raid_base.specs.declared.names.Txn.{Txn}
 use Rattle.raid_base.specs.declared.entry.Entry.{Entry as Real}
-use Rattle.raid_base.specs.declared.entry.Entry.TheVariants.{Begin, Read, Wait, Commit, Abort, Ack, SwitchOn, SwitchEnd, Down, Up, Clear}
+use Rattle.raid_base.specs.declared.entry.Entry.TheVariants.{Read, Commit}
 use Rattle.raid_base.specs.declared.entry.Noted.{Noted as RNoted}
 use Rattle.raid_workload.specs.declared.workload.Workload.{Workload}
 use Rattle.raid_rules.specs.Entries.{is_begin_of, is_commit_of, is_end_of}
 use Rattle.raid_rules.specs.History.{noted as noted_in, add, next, stamp, has_begun, has_committed, has_ended, is_running}
 use Rattle.raid_rules.specs.Conflict.{Edge, Path, one, cons}
-use Rattle.raid_rules.specs.Last.{Star, NewEdge, acts_by}
+use Rattle.raid_rules.specs.Last.{acts_by}
 use Rattle.raid_rules.proofs.Last.{path_last, edge_none}
 use Rattle.raid_rules.proofs.Places.{by_last}
 use Rattle.raid_rules.proofs.Push.{noted_push}

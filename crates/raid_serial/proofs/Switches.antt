@@ -1,10 +1,9 @@
 -- The switches of a legal history did what they may.
-use Rattle.std.proofs.Common.{◌≡◌, ℕ, zero, suc, ◌+◌, ◌*◌, ◌<◌, ◌≤◌, ◌⊎◌, inl, inr, Bool, true, false, not, ◌&&◌, ◌||◌, ◌==◌, cond, if◌then◌else◌, nat_lt, List, [], ◌∷◌, ◌++◌, length, map, arith, sym, ◌∙◌, ap, subst, refl, Option, Some, None, append-nil, append_assoc, length-append}
-use Rattle.std.specs.Prelude.{find, count_by, take, drop, option_map, is_some}
-use Rattle.std.specs.Bool.{OnTrue}
+use Rattle.std.proofs.Common.{◌≡◌, ℕ, zero, suc, ◌+◌, ◌*◌, ◌<◌, ◌≤◌, ◌⊎◌, inl, inr, Bool, true, false, not, ◌&&◌, ◌==◌, cond, if◌then◌else◌, List, [], ◌∷◌, ◌++◌, length, map, arith, sym, ◌∙◌, ap, subst, refl, Option, Some, None, append-nil, append_assoc, length-append}
+use Rattle.std.specs.Prelude.{find, count_by, take, drop, option_map}
 use Rattle.std.specs.List.{list_any, list_all, filter}
 use Rattle.std.specs.Option.{option_map_or}
-use Rattle.std.proofs.lemmas.Bool.{true≢false, and_parts, and_from, or_left, eqb-true, OnTrue_from}
+use Rattle.std.proofs.lemmas.Bool.{true≢false, and_from, or_left, eqb-true, OnTrue_from}
 use Rattle.std.proofs.lemmas.Grind.{common_steps}
 use Rattle.std.proofs.lemmas.List.{drop-append-le, drop_all, map-append, length-map}
 use Rattle.std.proofs.lemmas.List.Folds.{list_any-append}
@@ -20,28 +19,26 @@ use Rattle.raid_base.specs.declared.entry.Noted.{Noted as RNoted}
 use Rattle.raid_base.specs.declared.verdict.Kind.{Kind as RKind}
 use Rattle.raid_base.specs.declared.verdict.Method.{Method}
 use Rattle.raid_base.specs.declared.verdict.Method.TheVariants.{Generic, Convert, Suffix}
-use Rattle.raid_base.specs.declared.verdict.Verdict.{Verdict}
 use Rattle.raid_base.specs.declared.verdict.Verdict.TheVariants as verdicts
 use Rattle.raid_base.specs.Names.{is_txn, has_txn, has_site}
 use Rattle.raid_workload.specs.declared.workload.Workload.{Workload}
 use Rattle.raid_workload.specs.Parts.{txns, home, count_from}
 use Rattle.raid_rules.specs.Committed.{AllOnce}
 use Rattle.raid_rules.specs.Entries.{is_switch_on, is_begin_of, is_end_of}
-use Rattle.raid_rules.specs.History.{noted as noted_in, add, next, stamp, is_running, has_begun, has_ended}
+use Rattle.raid_rules.specs.History.{noted as noted_in, add, next, stamp, is_running, has_ended}
 use Rattle.raid_rules.specs.Sessions.{is_site_up}
 use Rattle.raid_rules.specs.Verdicts.{Question, reading, writing, verdict_of}
 use Rattle.raid_rules.specs.Views.{view_of, is_backward, aborts_backward}
 use Rattle.raid_rules.proofs.Places.{by_last, noted_length}
 use Rattle.raid_rules.proofs.Push.{same_txn, noted_push, has_begun_push, vector_push}
 use Rattle.raid_legal.specs.Seen.{running, sources, is_up, vector}
-use Rattle.raid_legal.specs.InForce.{InForce, in_force, verdict, is_joint, turn_end, turn, off_list, controllers, newer, past}
+use Rattle.raid_legal.specs.InForce.{InForce, in_force, verdict, is_joint, turn_end, turn, off_list, newer, past}
 use Rattle.raid_legal.specs.Forced.{forced, home_down, switch_off, switch_end, switch_on, woken, earliest}
 use Rattle.raid_legal.specs.Legal.{Legal, Allowed, EachSeeing}
 use Rattle.raid_legal.specs.Switched.{switch_of, is_aborted_by, is_after_switch, AbortsJust, is_granted, GrantedByAll, SwitchRow, Switched}
 use Rattle.raid_legal.proofs.Push.{legal_push, each_push}
 use Rattle.raid_serial.proofs.Translate.{txn, cases_true, eq_self, not_true}
-use Rattle.raid_serial.proofs.Facts.{Fact, fact, each_grants, map_some, map_none, find_some, none_is, some_is}
-use Rattle.raid_serial.proofs.Tamed.{keep_txn}
+use Rattle.raid_serial.proofs.Facts.{Fact, fact, each_grants, map_none, none_is}
 use Rattle.raid_serial.proofs.Attempts.{counted}
 use Rattle.raid_serial.proofs.Force.{in_force_push}
 use Rattle.raid_serial.proofs.Says.{Caused, Says, says, homes_up, off_comes}

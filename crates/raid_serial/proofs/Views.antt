@@ -1,7 +1,7 @@
 -- The views of the controllers in force: in order, and as telling as the history.
-use Rattle.std.proofs.Common.{◌≡◌, ℕ, ℤ, ◌+◌, ◌<◌, ◌≤◌, ◌⊎◌, inl, inr, Bool, true, false, not, ◌&&◌, ◌||◌, ◌==◌, if◌then◌else◌, nat_lt, List, [], ◌∷◌, ◌++◌, length, get_or, arith, sym, ◌∙◌, ap, subst, refl, Option, Some, None}
-use Rattle.std.specs.List.{All, AllPairs, list_any, filter}
-use Rattle.std.proofs.lemmas.Bool.{true≢false, and_parts, or_left}
+use Rattle.std.proofs.Common.{◌≡◌, ℕ, ℤ, ◌+◌, ◌<◌, ◌≤◌, inl, inr, Bool, true, false, not, ◌||◌, ◌==◌, nat_lt, List, [], ◌∷◌, ◌++◌, length, get_or, arith, sym, ◌∙◌, ap, subst, refl, Option, Some, None}
+use Rattle.std.specs.List.{All}
+use Rattle.std.proofs.lemmas.Bool.{true≢false, and_parts}
 use Rattle.std.proofs.lemmas.Grind.{common_steps}
 use Rattle.std.proofs.lemmas.List.Elements.{All-cons, All-filter, All-push}
 use Rattle.std.proofs.lemmas.List.{get_or_default}
@@ -10,15 +10,15 @@ use Rattle.std.proofs.lemmas.List.Quantifiers.{all_pairs_push}
 use Rattle.raid_base.specs.declared.names.Txn.{Txn}
 use Rattle.raid_base.specs.declared.names.Item.{Item}
 use Rattle.raid_base.specs.declared.entry.Entry.{Entry as Real}
-use Rattle.raid_base.specs.declared.entry.Entry.TheVariants.{Begin, Read, Commit}
+use Rattle.raid_base.specs.declared.entry.Entry.TheVariants.{Commit}
 use Rattle.raid_base.specs.declared.entry.Noted.{Noted as RNoted}
 use Rattle.raid_base.specs.declared.verdict.Kind.{Kind as RKind}
-use Rattle.raid_base.specs.Names.{is_txn, has_txn}
+use Rattle.raid_base.specs.Names.{has_txn}
 use Rattle.raid_workload.specs.declared.workload.Workload.{Workload}
 use Rattle.raid_rules.specs.Entries.{is_begin, is_read, is_commit, is_begin_of, is_end_of}
 use Rattle.raid_rules.specs.History.{noted as noted_in, stamp, has_begun, has_ended, is_running}
-use Rattle.raid_rules.specs.Order.{is_of, is_seen, IsInOrder, AgreesOn, BeginsAtStamp, Fits}
-use Rattle.raid_rules.specs.Verdicts.{Question, reading, writing, as_noted, as_entry}
+use Rattle.raid_rules.specs.Order.{is_of, IsInOrder, AgreesOn, BeginsAtStamp, Fits}
+use Rattle.raid_rules.specs.Verdicts.{reading, writing, as_noted}
 use Rattle.raid_rules.specs.Views.{View, is_in, view_of, is_backward}
 use Rattle.raid_rules.proofs.Push.{same_txn}
 use Rattle.raid_legal.specs.InForce.{in_force, controllers, newer, past}
