@@ -1,0 +1,33 @@
+#!/bin/sh
+# Refuses each allocation of a run in turn. The program has to end with status 6 and nothing written, or as
+# it does where none is refused. The workload and its report are those that the gate runs.
+cc=$(command -v cc || command -v gcc || command -v clang)
+program=crates/raid/out/raid
+if [ -z "$cc" ] || [ ! -x "$program" ] || ! ldd "$program" >/dev/null 2>&1; then
+    echo "allocations: skipped, since there is no C compiler, or the program isn't built (bin/raid builds it)"
+    exit 0
+fi
+room=$(mktemp -d)
+trap 'rm -rf "$room"' EXIT
+"$cc" -shared -fPIC -O1 -o "$room/refuse.so" tests/refuse.c -ldl || exit 1
+number=1
+refused=0
+while [ "$number" -le 1000 ]; do
+    LD_PRELOAD="$room/refuse.so" RAID_REFUSE=$number "$program" run <crates/raid/stdin >"$room/out"
+    status=$?
+    if [ "$status" -eq 6 ] && [ ! -s "$room/out" ]; then
+        refused=$number
+    elif [ "$status" -ne 0 ] || ! cmp -s "$room/out" crates/raid/stdout; then
+        echo "allocations: number $number refused, and the program ended with status $status and wrote:"
+        cat "$room/out"
+        exit 1
+    elif [ "$number" -ge $((refused + 50)) ]; then
+        break
+    fi
+    number=$((number + 1))
+done
+if [ "$refused" -eq 0 ]; then
+    echo "allocations: no refusal was noticed, so the program took no memory that could be refused"
+    exit 1
+fi
+echo "allocations: each of the first $refused and 50 more refused in turn: status 6 and nothing written, or the run as it is"
