@@ -84,7 +84,7 @@ pub no_line : (text : List ℕ) (n : ℕ) → n ≡ length text → ((k : ℕ) �
 unfolding full_lines
 no_line text n e before = ap without_last (pieces_whole 10 text (λ k h. before k (omega arith)))
 
-passes : (p : List ℕ) (mark : ℕ) (bytes : List ℕ) → last_of (p ∷ pieces mark bytes) ≡ last_of (pieces mark bytes)
+pub passes : (p : List ℕ) (mark : ℕ) (bytes : List ℕ) → last_of (p ∷ pieces mark bytes) ≡ last_of (pieces mark bytes)
 passes p mark bytes = let some = some_pieces mark bytes in rw some.1 refl
 
 pub rest_is : (text : List ℕ) (n : ℕ) → n < length text → ((k : ℕ) → k < n → (get_or text k 0 == 10) ≡ false) → (get_or text n 0 == 10) ≡ true →

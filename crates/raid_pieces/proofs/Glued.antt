@@ -4,8 +4,8 @@ use Rattle.std.specs.List.{slice_split, onto_first, flat_map, list_all}
 use Rattle.std.proofs.lemmas.Bool.{eqb-true, and_parts, both_ways}
 use Rattle.std.proofs.lemmas.List.{append-nil}
 use Rattle.std.proofs.lemmas.Bool.Decides.{nat_tests}
-use Rattle.raid_pieces.specs.Pieces.{pieces, without_last, full_lines}
-use Rattle.raid_pieces.proofs.Cuts.{some_pieces, keeps}
+use Rattle.raid_pieces.specs.Pieces.{pieces, without_last, full_lines, last_of, unfinished}
+use Rattle.raid_pieces.proofs.Cuts.{some_pieces, keeps, passes}
 
 -- the mark stands nowhere
 abbrev pub free : ℕ → List ℕ → Bool
@@ -80,3 +80,38 @@ free_of P mark (b ∷ bytes) none h =
     differ : (t : Bool) → (t ≡ true → ⊥) → t ≡ false
     differ true f = absurd (f refl)
     differ false f = refl
+
+pub unfinished_before : (line rest : List ℕ) → free 10 line ≡ true → unfinished (line ++ (10 ∷ rest)) ≡ unfinished rest
+unfolding unfinished
+unfinished_before line rest h = ap last_of (piece_before 10 line rest h) ∙ passes line 10 rest
+
+pub nothing_unfinished : unfinished [] ≡ []
+unfolding unfinished pieces
+nothing_unfinished = refl
+
+pub no_full_lines : full_lines [] ≡ []
+unfolding full_lines pieces
+no_full_lines = refl
+
+onto_free : (mark b : ℕ) (ps : List (List ℕ)) → (b == mark) ≡ false → list_all (free mark) ps ≡ true → list_all (free mark) (onto_first b ps) ≡ true
+onto_free mark b [] apart h = rw apart refl
+onto_free mark b (p ∷ ps) apart h = rw apart h
+
+-- no piece has a mark in it
+pub pieces_free : (mark : ℕ) (bytes : List ℕ) → list_all (free mark) (pieces mark bytes) ≡ true
+unfolding pieces
+pieces_free mark [] = refl
+pieces_free mark (b ∷ bytes) =
+    elim (b == mark) as (λ t. (b == mark) ≡ t → list_all (free mark) (cond t ([] ∷ slice_split (λ b. b == mark) bytes) (onto_first b (slice_split (λ b. b == mark) bytes))) ≡ true) [
+      | true ↦ λ h. pieces_free mark bytes
+      | false ↦ λ h. onto_free mark b (slice_split (λ b. b == mark) bytes) h (pieces_free mark bytes)
+    ] refl
+
+kept_free : (mark : ℕ) (ps : List (List ℕ)) → list_all (free mark) ps ≡ true → list_all (free mark) (without_last ps) ≡ true
+kept_free mark [] h = refl
+kept_free mark (p ∷ []) h = refl
+kept_free mark (p ∷ q ∷ ps) h = let a = and_parts (free mark p) (list_all (free mark) (q ∷ ps)) h in rw a.0 (kept_free mark (q ∷ ps) a.1)
+
+pub lines_free : (text : List ℕ) → list_all (free 10) (full_lines text) ≡ true
+unfolding full_lines
+lines_free text = kept_free 10 (pieces 10 text) (pieces_free 10 text)

@@ -15,6 +15,7 @@ use Rattle.raid_report.specs.Spelling.{Word, spelling, spaced, line_text, text_o
 use Rattle.raid_report.specs.Known.{IsReportOf}
 use Rattle.raid_report.specs.Typed.{IsTyped}
 use Rattle.raid_report.specs.Drafts.{opening, line_after, report_of}
+use Rattle.raid_report.specs.Beginnings.{fed}
 use Rattle.raid_report.specs.Outcome.{is_over, ended, after_line, outcome_from, outcome_of}
 use Rattle.raid_report.proofs.Drafts.{begun_at, begun, IsWhole, IsDraftAt, IsDraft}
 use Rattle.raid_report.proofs.Tails.{line_exact}
@@ -32,7 +33,7 @@ is_place_over Entries h = absurd cc
 is_place_over Tail h = absurd cc
 is_place_over Over h = refl
 
-spelled_over : (w : Workload) (d : Draft) → spelling w (report_of d) ≡ begun_at w Over d
+pub spelled_over : (w : Workload) (d : Draft) → spelling w (report_of d) ≡ begun_at w Over d
 unfolding spelling
 spelled_over w d = simp append_assoc
 
@@ -71,10 +72,6 @@ ok_from w number d whole (line ∷ lines) r is h =
     subst (λ (ls : List (List Word)). IsRead w whole ls r) same rest
 
 -- ---- bytes
-
--- a line as it stands in the text
-abbrev pub fed : List ℕ → List ℕ
-fed line = line ++ 10 ∷ []
 
 pub line_is : (line : List ℕ) → line_text (pieces 32 line) ≡ fed line
 line_is line =

@@ -1,3 +1,4 @@
+pub mod Beginnings
 pub mod Brief
 pub mod Drafts
 pub mod Forms

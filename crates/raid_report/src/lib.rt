@@ -5,6 +5,7 @@ mod draft;
 mod entries;
 mod error;
 mod known;
+mod laws;
 mod lines;
 mod next;
 mod put;
@@ -13,6 +14,7 @@ mod summary;
 mod words;
 mod writing;
 
+pub use laws::print_tells_apart;
 pub use raid_base::{CopyLine, CopyList, Report};
 pub use reading::{ReportRefused, parse};
 pub use summary::brief;

@@ -3,7 +3,9 @@
 ghost use Rattle.std.specs.Prelude.{◌≡◌, ◌+◌, ◌-◌, ◌<◌, ◌≤◌, ◌^◌, ◌==◌, ◌∷◌, ◌++◌, ℕ, [], List, length, map, Some, None, OnOk, IfOk, IfErr};
 ghost use Rattle.raid_base.specs.Names.{has_site};
 ghost use Rattle.raid_report.specs.Known.{places, held_at};
+ghost use Rattle.raid_base.specs.declared.report.Report.{Report};
 ghost use Rattle.raid_report.specs.Drafts.{opening};
+ghost use Rattle.raid_report.specs.Beginnings.{IsTextOf, IsGiven, IsRefusal};
 ghost use Rattle.raid_report.specs.Outcome.{ended, outcome_of, Answers, refusal_of};
 
 use crate::draft::{Draft, Place};
@@ -111,8 +113,8 @@ fn finish(draft: Draft, number: u32, rest: &[u8]) -> Result<Report, ReportRefuse
     })
 }
 
-/// The report of which the text is the print.
-pub fn parse(alloc: Global, workload: &Workload, text: &[u8]) -> Result<Report, ReportRefused>
+/// What the readers of the lines make of a text.
+fn read_lines(alloc: Global, workload: &Workload, text: &[u8]) -> Result<Report, ReportRefused>
     requires { length text.now < 2 ^ 32 - 1 }
     ensures { Answers result (outcome_of workload.now text.now) }
 {
@@ -129,4 +131,18 @@ pub fn parse(alloc: Global, workload: &Workload, text: &[u8]) -> Result<Report, 
         rest = after;
     }
     finish(draft, number, rest)
+}
+
+/// The report whose text this is, for a report of the workload. The text has to be as [`print`](crate::print)
+/// gives it, to the byte.
+pub fn parse(alloc: Global, workload: &Workload, text: &[u8]) -> Result<Report, ReportRefused>
+    requires { length text.now < 2 ^ 32 - 1 }
+    // What is given is a report of the workload, and the text is its print.
+    ensures reads { IfOk result (IsTextOf workload.now text.now) }
+    // The report whose text it is, is given, unless memory is refused.
+    ensures only { (r : Report) → IsTextOf workload.now text.now r → IsGiven r result }
+    // A refusal of the text names the first line that doesn't fit.
+    ensures refused { IfErr result (IsRefusal workload.now text.now) }
+{
+    read_lines(alloc, workload, text)
 }

@@ -1,7 +1,7 @@
 use Rattle.std.proofs.Common.{◌≡◌, ◌==◌, ◌+◌, ◌≤◌, length}
 use Rattle.raid_pieces.specs.Pieces.{full_lines, unfinished}
 use Rattle.raid_report.specs.Outcome.{outcome_from, outcome_of}
-use Rattle.raid_report.proofs.reading.parse.Given as goal
+use Rattle.raid_report.proofs.reading.read_lines.Given as goal
 
 abbrev pub invariant-loop-line : goal.invariant-loop-line
 invariant-loop-line l = record {
