@@ -1,10 +1,10 @@
 -- What the first mark does to the pieces.
-use Rattle.std.proofs.Common.{◌≡◌, ◌==◌, ℕ, zero, suc, ◌+◌, ◌<◌, ◌≤◌, Bool, true, false, cond, List, [], ◌∷◌, ◌++◌, length, get_or, drop, take, refl, sym, ap, ◌∙◌, arith, add-one, inl, inr}
+use Rattle.std.proofs.Common.{◌≡◌, ◌==◌, ℕ, zero, suc, ◌+◌, ◌<◌, ◌≤◌, true, false, cond, List, [], ◌∷◌, length, get_or, drop, take, refl, sym, ap, ◌∙◌, arith, add-one, inl, inr}
 use Rattle.std.proofs.Math.Seq.{drop-cons}
-use Rattle.std.proofs.lemmas.List.{take_all, drop_all, nil_from_length}
-use Rattle.std.proofs.lemmas.Bool.{cases_lt, eqb-true}
+use Rattle.std.proofs.lemmas.List.{take_all, drop_all}
+use Rattle.std.proofs.lemmas.Bool.{cases_lt}
 use Rattle.std.specs.List.{slice_split, onto_first}
-use Rattle.raid_pieces.specs.Pieces.{pieces, without_first, without_last, pieces_behind, full_lines}
+use Rattle.raid_pieces.specs.Pieces.{pieces, without_first, without_last, pieces_behind, full_lines, last_of, unfinished}
 
 pub pieces_cut : (mark n : ℕ) (bytes : List ℕ) → n < length bytes → ((k : ℕ) → k < n → (get_or bytes k 0 == mark) ≡ false) → (get_or bytes n 0 == mark) ≡ true →
     pieces mark bytes ≡ take n bytes ∷ pieces mark (drop (suc n) bytes)
@@ -59,7 +59,7 @@ next_is mark n bytes lt before at = behind_cut mark n bytes lt before at
 
 -- ---- lines
 
-some_pieces : (mark : ℕ) (bytes : List ℕ) → (q : List ℕ × List (List ℕ)) × (pieces mark bytes ≡ q.0 ∷ q.1)
+pub some_pieces : (mark : ℕ) (bytes : List ℕ) → (q : List ℕ × List (List ℕ)) × (pieces mark bytes ≡ q.0 ∷ q.1)
 unfolding pieces
 some_pieces mark [] = (([], []), refl)
 some_pieces mark (b ∷ bytes) =
@@ -72,7 +72,7 @@ some_pieces mark (b ∷ bytes) =
     onto_some b [] = ((b ∷ [], []), refl)
     onto_some b (p ∷ ps) = ((b ∷ p, ps), refl)
 
-keeps : (p : List ℕ) (mark : ℕ) (bytes : List ℕ) → without_last (p ∷ pieces mark bytes) ≡ p ∷ without_last (pieces mark bytes)
+pub keeps : (p : List ℕ) (mark : ℕ) (bytes : List ℕ) → without_last (p ∷ pieces mark bytes) ≡ p ∷ without_last (pieces mark bytes)
 keeps p mark bytes = let some = some_pieces mark bytes in rw some.1 refl
 
 pub line_is : (text : List ℕ) (n : ℕ) → n < length text → ((k : ℕ) → k < n → (get_or text k 0 == 10) ≡ false) → (get_or text n 0 == 10) ≡ true →
@@ -83,3 +83,15 @@ line_is text n lt before at = ap without_last (pieces_cut 10 n text lt before at
 pub no_line : (text : List ℕ) (n : ℕ) → n ≡ length text → ((k : ℕ) → k < n → (get_or text k 0 == 10) ≡ false) → full_lines text ≡ []
 unfolding full_lines
 no_line text n e before = ap without_last (pieces_whole 10 text (λ k h. before k (omega arith)))
+
+pub passes : (p : List ℕ) (mark : ℕ) (bytes : List ℕ) → last_of (p ∷ pieces mark bytes) ≡ last_of (pieces mark bytes)
+passes p mark bytes = let some = some_pieces mark bytes in rw some.1 refl
+
+pub rest_is : (text : List ℕ) (n : ℕ) → n < length text → ((k : ℕ) → k < n → (get_or text k 0 == 10) ≡ false) → (get_or text n 0 == 10) ≡ true →
+    unfinished (drop (n + 1) text) ≡ unfinished text
+unfolding unfinished
+rest_is text n lt before at = sym (ap last_of (pieces_cut 10 n text lt before at) ∙ passes (take n text) 10 (drop (suc n) text) ∙ rw (← add-one n) refl)
+
+pub whole_is : (text : List ℕ) (n : ℕ) → n ≡ length text → ((k : ℕ) → k < n → (get_or text k 0 == 10) ≡ false) → unfinished text ≡ text
+unfolding unfinished
+whole_is text n e before = ap last_of (pieces_whole 10 text (λ k h. before k (omega arith)))

@@ -1,5 +1,5 @@
 -- The numbers that words are. A word is a number exactly where it is how that number is printed.
-use Rattle.std.specs.Prelude.{ℕ, ℤ, pos, neg_ℤ, ◌+◌, ◌-◌, ◌*◌, Bool, true, false, ◌&&◌, ◌==◌, nat_le, if◌then◌else◌, List, [], ◌∷◌, length, Option, Some, None, bytes_eq}
+use Rattle.std.specs.Prelude.{ℕ, ℤ, pos, negsuc, neg_ℤ, ◌<◌, ◌^◌, ◌+◌, ◌-◌, ◌*◌, Bool, true, false, ◌&&◌, ◌==◌, nat_le, if◌then◌else◌, List, [], ◌∷◌, length, Option, Some, None, bytes_eq}
 use Rattle.std.specs.List.{list_all}
 use Rattle.std.specs.Fmt.{decimal, signed_decimal}
 
@@ -42,3 +42,8 @@ exact_value word (Some z) = if bytes_eq word (signed_decimal z) then Some z else
 
 unfoldable pub value_of : List ℕ → Option ℤ
 value_of word = exact_value word (loose_value_of word)
+
+-- the value is one of i64
+abbrev pub IsValue : ℤ → Type 0
+IsValue (pos n) = n < 2 ^ 63
+IsValue (negsuc n) = n < 2 ^ 63

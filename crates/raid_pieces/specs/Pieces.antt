@@ -24,3 +24,12 @@ pieces_behind mark rest = without_first (pieces mark rest)
 -- the lines of a text that end with a line feed
 unfoldable pub full_lines : List ℕ → List (List ℕ)
 full_lines text = without_last (pieces 10 text)
+
+abbrev pub last_of : List (List ℕ) → List ℕ
+last_of [] = []
+last_of (piece ∷ []) = piece
+last_of (piece ∷ next ∷ others) = last_of (next ∷ others)
+
+-- what stands behind the last line feed
+unfoldable pub unfinished : List ℕ → List ℕ
+unfinished text = last_of (pieces 10 text)

@@ -1,7 +1,7 @@
 //! Pieces of a text, as parts of it.
 
 ghost use Rattle.std.specs.Prelude.{◌≡◌, ◌∷◌, ◌++◌, ◌<◌, ◌≤◌, ◌==◌, ℕ, [], List, MatchOption, length, true, false, slice_index, IfSome};
-ghost use Rattle.raid_pieces.specs.Pieces.{pieces, pieces_behind, full_lines};
+ghost use Rattle.raid_pieces.specs.Pieces.{pieces, pieces_behind, full_lines, unfinished};
 
 /// How many bytes stand before the first mark.
 fn piece_len(bytes: &[u8], mark: u8) -> usize
@@ -42,6 +42,7 @@ pub fn next_piece(rest: &[u8], mark: u8) -> Option<(&[u8], &[u8])>
 pub fn next_line(text: &[u8]) -> Option<(&[u8], &[u8])>
     ensures line { MatchOption result (full_lines text.now ≡ []) (λ x. full_lines text.now ≡ x.0.now ∷ full_lines x.1.now) }
     ensures bytes { IfSome result (λ x. text.now ≡ x.0.now ++ 10 ∷ x.1.now) }
+    ensures unfinished { MatchOption result (unfinished text.now ≡ text.now) (λ x. unfinished x.1.now ≡ unfinished text.now) }
 {
     let end = piece_len(text, b'\n');
     if end == text.len() {

@@ -1,6 +1,6 @@
 //! Names by their places, and their places by name.
 
-ghost use Rattle.std.specs.Prelude.{◌≡◌, ◌++◌, ◌∷◌, ℕ, [], List, map, None, OnOk, OnErr, IfOk};
+ghost use Rattle.std.specs.Prelude.{◌≡◌, ◌++◌, ◌∷◌, ℕ, [], List, map, None, length, ◌<◌, OnOk, IfSome};
 ghost use Rattle.raid_pieces.specs.Names.{place_of};
 
 use indexmap::IndexSet;
@@ -33,7 +33,8 @@ impl<'a> Names<'a> {
 
     /// The place of a name, counted from 0; None where it isn't among the names.
     pub fn place_of(&self, name: &'a [u8]) -> Option<usize>
-        ensures { result ≡ place_of self.now name.now }
+        ensures place { result ≡ place_of self.now name.now }
+        ensures within { IfSome result (λ k. k < length self.now) }
     {
         self.set.get_index_of(&name)
     }

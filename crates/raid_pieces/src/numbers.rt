@@ -50,7 +50,8 @@ fn short_worth(digits: &[u8]) -> u64
 /// The number of at most so much that a word is how it is printed.
 #[tactic(auto, unfolding(crate::specs::Numbers::number_of))]
 pub fn number_of(word: &[u8], most: u32) -> Result<u32, Unfit>
-    ensures { Tells (λ x. x) result (number_of most word.now) }
+    ensures within { IfOk result (λ x. x ≤ most) }
+    ensures reads { Tells (λ x. x) result (number_of most word.now) }
 {
     if !are_digits(word, 10) {
         return Err(Unfit);

@@ -6,8 +6,9 @@ use Rattle.raid_base.specs.declared.names.Site.{Site}
 use Rattle.raid_base.specs.declared.report.CopyLine.{CopyLine}
 use Rattle.raid_base.specs.Names.{has_site}
 use Rattle.raid_workload.specs.declared.workload.Workload.{Workload}
+use Rattle.raid_base.specs.Sites.{site}
 use Rattle.raid_workload.specs.Parts.{count_from, items, sites}
-use Rattle.raid_report.specs.Known.{KnowsItem, KnowsPair, KnowsCopy, held_at, holders_of, places, place_of}
+use Rattle.raid_report.specs.Known.{KnowsSite, KnowsItem, KnowsPair, KnowsCopy, held_at, holders_of, places, place_of}
 
 counted_below : (first n bound : ℕ) → first + n ≤ bound → AllByRecursion (λ (x : Item). x.0 < bound) (map (λ k. let x : Item = record { 0 = k } in x) (count_from first n))
 counted_below first zero bound le = tt
@@ -53,3 +54,23 @@ finals_known w finals e = before_image (KnowsItem w) (λ (p : Item × ℤ). p.0)
 
 pub copies_known : (w : Workload) (copies : List CopyLine) → map place_of copies ≡ places w → AllByRecursion (KnowsCopy w) copies
 copies_known w copies e = before_image (KnowsPlace w) place_of copies (subst (AllByRecursion (KnowsPlace w)) (sym e) (places_known w (sites w)))
+
+-- the copies are at the workload's sites
+sites_counted : (w : Workload) (first n : ℕ) → 1 ≤ first → first + n ≤ w.sites + 1 → AllByRecursion (KnowsSite w) (map site (count_from first n))
+sites_counted w first zero from le = tt
+sites_counted w first (suc n) from le = (record { first = from; last = omega arith }, sites_counted w (first + 1) n (omega arith) (omega arith))
+
+abbrev IsSited : Workload → Site × Item → Type 0
+IsSited w p = KnowsSite w p.0
+
+at_site : (w : Workload) (s : Site) (xs : List Item) → KnowsSite w s → AllByRecursion (IsSited w) (map (λ x. (s, x)) xs)
+at_site w s [] h = tt
+at_site w s (x ∷ xs) h = (h, at_site w s xs h)
+
+places_at : (w : Workload) (ss : List Site) → AllByRecursion (KnowsSite w) ss → AllByRecursion (IsSited w) (flat_map (λ s. map (λ x. (s, x)) (held_at w s)) ss)
+places_at w [] h = tt
+places_at w (s ∷ ss) h =
+    both_known (IsSited w) (map (λ x. (s, x)) (held_at w s)) (flat_map (λ s. map (λ x. (s, x)) (held_at w s)) ss) (at_site w s (held_at w s) h.0) (places_at w ss h.1)
+
+pub places_sited : (w : Workload) (copies : List CopyLine) → map place_of copies ≡ places w → AllByRecursion (λ (c : CopyLine). KnowsSite w c.site) copies
+places_sited w copies e = before_image (IsSited w) place_of copies (subst (AllByRecursion (IsSited w)) (sym e) (places_at w (sites w) (sites_counted w 1 w.sites (omega arith) (omega arith))))
