@@ -19,13 +19,13 @@ pub fn fault_line(alloc: Global, line: u32, fault: Fault) -> Result<Bytes, NoMem
     ensures { IfOk result (λ text. text ≡ lines.fault_line line fault) }
 {
     let mut text = Bytes::new(alloc);
-    put(&mut text, b"refused line ")?;
-    put(&mut text, Buffer::new().format(line).as_bytes())?;
-    put(&mut text, b" fault ")?;
-    put(&mut text, Buffer::new().format(fault.number()).as_bytes())?;
-    put(&mut text, b" ")?;
-    put(&mut text, fault.word())?;
-    put(&mut text, b"\n")?;
+    text.push_all(b"refused line ")?;
+    text.push_all(Buffer::new().format(line).as_bytes())?;
+    text.push_all(b" fault ")?;
+    text.push_all(Buffer::new().format(fault.number()).as_bytes())?;
+    text.push_all(b" ")?;
+    text.push_all(fault.word())?;
+    text.push_all(b"\n")?;
     Ok(text)
 }
 
@@ -34,16 +34,7 @@ pub fn copied(alloc: Global, bytes: &[u8]) -> Result<Bytes, NoMemory>
     ensures { IfOk result (λ text. text ≡ bytes.now) }
 {
     let mut text = Bytes::new(alloc);
-    put(&mut text, bytes)?;
+    text.push_all(bytes)?;
     Ok(text)
 }
 
-/// Puts bytes behind those of a text.
-fn put(text: &mut Bytes, bytes: &[u8]) -> Result<(), NoMemory>
-    ensures { OnOk result (text.new ≡ text.old ++ bytes.now) }
-{
-    for byte in bytes {
-        text.push(*byte)?;
-    }
-    Ok(())
-}

@@ -142,67 +142,54 @@ impl Duplicate for Act {
 
 impl Duplicate for Entry {
     fn copy(&self, alloc: Global) -> Result<Entry, NoMemory> {
-        match self {
-            Entry::Begin { txn, home } => Ok(Entry::Begin {
-                txn: *txn,
-                home: *home,
-            }),
-            Entry::Read { txn, item, site } => Ok(Entry::Read {
-                txn: *txn,
-                item: *item,
-                site: *site,
-            }),
-            Entry::Wait { txn, request } => {
+        match *self {
+            Entry::Begin { txn, home } => Ok(Entry::Begin { txn, home }),
+            Entry::Read { txn, item, site } => Ok(Entry::Read { txn, item, site }),
+            Entry::Wait { txn, ref request } => {
                 let request = request.copy(alloc)?;
-                Ok(Entry::Wait { txn: *txn, request })
+                Ok(Entry::Wait { txn, request })
             }
             Entry::Commit {
                 txn,
-                request,
+                ref request,
                 applied,
             } => {
                 let request = request.copy(alloc)?;
                 Ok(Entry::Commit {
-                    txn: *txn,
+                    txn,
                     request,
-                    applied: *applied,
+                    applied,
                 })
             }
-            Entry::Abort { txn, cause, act } => {
+            Entry::Abort {
+                txn,
+                cause,
+                ref act,
+            } => {
                 let act = act.copy(alloc)?;
-                Ok(Entry::Abort {
-                    txn: *txn,
-                    cause: *cause,
-                    act,
-                })
+                Ok(Entry::Abort { txn, cause, act })
             }
-            Entry::Ack { txn, site } => Ok(Entry::Ack {
-                txn: *txn,
-                site: *site,
-            }),
+            Entry::Ack { txn, site } => Ok(Entry::Ack { txn, site }),
             Entry::SwitchOn {
                 switch,
                 kind,
                 method,
             } => Ok(Entry::SwitchOn {
-                switch: *switch,
-                kind: *kind,
-                method: *method,
+                switch,
+                kind,
+                method,
             }),
-            Entry::SwitchEnd { switch } => Ok(Entry::SwitchEnd { switch: *switch }),
-            Entry::Down { site } => Ok(Entry::Down { site: *site }),
-            Entry::Up { site, session } => Ok(Entry::Up {
-                site: *site,
-                session: *session,
-            }),
+            Entry::SwitchEnd { switch } => Ok(Entry::SwitchEnd { switch }),
+            Entry::Down { site } => Ok(Entry::Down { site }),
+            Entry::Up { site, session } => Ok(Entry::Up { site, session }),
             Entry::Clear {
                 site,
                 item,
                 version,
             } => Ok(Entry::Clear {
-                site: *site,
-                item: *item,
-                version: *version,
+                site,
+                item,
+                version,
             }),
         }
     }

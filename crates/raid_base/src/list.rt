@@ -92,6 +92,17 @@ impl<T: Drop> Listed<T> {
     }
 }
 
+impl<T: Copy> Listed<T> {
+    /// Adds values at the end, in their order. After want of memory the list is as it was.
+    pub fn push_all(&mut self, values: &[T]) -> Result<(), NoMemory>
+        ensures ok { OnOk result (self.new ≡ self.old ++ values.now) }
+        ensures err { OnErr result (self.new ≡ self.old) }
+    {
+        self.held.extend_from_slice(values)?;
+        Ok(())
+    }
+}
+
 impl Listed<Txn> {
     /// Takes the transaction out, wherever it stands. The others keep their order. Takes no memory.
     pub fn remove(&mut self, txn: Txn)

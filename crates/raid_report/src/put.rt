@@ -12,29 +12,19 @@ use raid_base::{
 };
 use raid_workload::Workload;
 
-/// Bytes as they are.
-pub fn put(out: &mut Bytes, bytes: &[u8]) -> Result<(), NoMemory>
-    ensures { OnOk result (out.new ≡ out.old ++ bytes.now) }
-{
-    for b in bytes {
-        out.push(*b)?;
-    }
-    Ok(())
-}
-
 /// A word, and the space before it.
 pub fn put_word(out: &mut Bytes, word: &[u8]) -> Result<(), NoMemory>
     ensures { OnOk result (out.new ≡ out.old ++ (32 ∷ word.now)) }
 {
     out.push(b' ')?;
-    put(out, word)
+    out.push_all(word)
 }
 
 /// The digits of a number.
 pub fn put_digits(out: &mut Bytes, n: u32) -> Result<(), NoMemory>
     ensures { OnOk result (out.new ≡ out.old ++ decimal n) }
 {
-    put(out, Buffer::new().format(n).as_bytes())
+    out.push_all(Buffer::new().format(n).as_bytes())
 }
 
 pub fn put_number(out: &mut Bytes, n: u32) -> Result<(), NoMemory>
@@ -114,9 +104,9 @@ fn put_pair_part(
     requires { KnowsItem workload.now item }
     ensures { OnOk result (out.new ≡ out.old ++ pair_part workload.now (item, value)) }
 {
-    put(out, name_of(workload, item))?;
+    out.push_all(name_of(workload, item))?;
     out.push(b'=')?;
-    put(out, Buffer::new().format(value).as_bytes())
+    out.push_all(Buffer::new().format(value).as_bytes())
 }
 
 /// Pairs behind the first, a comma before each.
@@ -153,7 +143,7 @@ fn put_session_part(out: &mut Bytes, session: u32) -> Result<(), NoMemory>
     ensures { OnOk result (out.new ≡ out.old ++ session_part session) }
 {
     if session == 0 {
-        put(out, b"-")
+        out.push_all(b"-")
     } else {
         put_digits(out, session)
     }

@@ -6,7 +6,7 @@ ghost use Rattle.std.specs.Int.{w64, w128};
 ghost use Rattle.raid_report.specs.Brief.{is_end, ends, total, counts_words, total_words, summary_words, brief_of};
 ghost use Rattle.raid_report.specs.Spelling.{spaced, line_text};
 
-use crate::put::{put, put_word};
+use crate::put::put_word;
 use itoa::Buffer;
 use raid_base::{Bytes, Entry, Item, NoMemory, Report};
 use raid_workload::Workload;
@@ -79,7 +79,7 @@ fn put_counts(out: &mut Bytes, programs: usize, ended: usize) -> Result<(), NoMe
 fn put_summary(out: &mut Bytes, programs: usize, ended: usize, total: i128) -> Result<(), NoMemory>
     ensures { OnOk result (out.new ≡ out.old ++ line_text (summary_words programs ended total)) }
 {
-    put(out, b"transactions")?;
+    out.push_all(b"transactions")?;
     put_counts(out, programs, ended)?;
     put_total(out, total)?;
     out.push(b'\n')

@@ -7,7 +7,7 @@ ghost use Rattle.raid_report.specs.Known.{KnowsTxn, KnowsItem, KnowsPair, KnowsC
 ghost use Rattle.raid_report.specs.Spelling.{request_words, act_words, cause_words, entry_words, entry_lines, txns_words, order_words, final_words, copy_words, spelling, spaced, line_text, text_of, print_of};
 
 use crate::put::{
-    kind_word, method_word, put, put_digits, put_name, put_number, put_pairs, put_set, put_site,
+    kind_word, method_word, put_digits, put_name, put_number, put_pairs, put_set, put_site,
     put_txn, put_value, put_vector, put_word,
 };
 use raid_base::{
@@ -290,7 +290,7 @@ fn order_line(out: &mut Bytes, workload: &Workload, order: &[Txn]) -> Result<(),
     requires { AllByRecursion (KnowsTxn workload.now) order.now }
     ensures { OnOk result (out.new ≡ out.old ++ line_text (order_words workload.now order.now)) }
 {
-    put(out, b"order")?;
+    out.push_all(b"order")?;
     put_txns(out, workload, order)?;
     out.push(b'\n')
 }
@@ -299,7 +299,7 @@ fn final_line(out: &mut Bytes, workload: &Workload, item: Item, value: i64) -> R
     requires { KnowsItem workload.now item }
     ensures { OnOk result (out.new ≡ out.old ++ line_text (final_words workload.now (item, value))) }
 {
-    put(out, b"final")?;
+    out.push_all(b"final")?;
     put_name(out, workload, item)?;
     put_value(out, value)?;
     out.push(b'\n')
@@ -319,7 +319,7 @@ fn copy_line(out: &mut Bytes, workload: &Workload, copy: CopyLine) -> Result<(),
     requires { KnowsItem workload.now copy.item }
     ensures { OnOk result (out.new ≡ out.old ++ line_text (copy_words workload.now copy)) }
 {
-    put(out, b"copy")?;
+    out.push_all(b"copy")?;
     put_site(out, copy.site)?;
     put_name(out, workload, copy.item)?;
     put_value(out, copy.value)?;
@@ -340,7 +340,7 @@ fn put_copies(out: &mut Bytes, workload: &Workload, copies: &[CopyLine]) -> Resu
 fn first_line(out: &mut Bytes, workload: &Workload) -> Result<(), NoMemory>
     ensures { OnOk result (out.new ≡ out.old ++ line_text (codes "report" ∷ decimal workload.now.version ∷ [])) }
 {
-    put(out, b"report")?;
+    out.push_all(b"report")?;
     put_number(out, u32::from(workload.version))?;
     out.push(b'\n')
 }
@@ -355,7 +355,7 @@ fn put_report(out: &mut Bytes, workload: &Workload, report: &Report) -> Result<(
     order_line(out, workload, report.order.as_slice())?;
     put_finals(out, workload, report.finals.as_slice())?;
     put_copies(out, workload, report.copies.as_slice())?;
-    put(out, b"done\n")
+    out.push_all(b"done\n")
 }
 
 /// The text of a report. Want of memory is the only error.

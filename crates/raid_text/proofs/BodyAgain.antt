@@ -26,7 +26,7 @@ use Rattle.raid_text.specs.declared.state.Place.TheVariants as places
 use Rattle.raid_text.specs.Choices.{kind_of, structure_of, method_of, kind_at, structure_at, method_at}
 use Rattle.raid_text.specs.Head.{open_line}
 use Rattle.raid_text.specs.Body.{switch_at, switch_fits, allowed_switch, switch_line, event_at, event_line, done_line}
-use Rattle.raid_text.specs.Spelling.{kind_word, structure_word, method_word, site_word, open_words, switch_words, event_words}
+use Rattle.raid_text.specs.Spelling.{kind_word, structure_word, method_word, open_words, switch_words, event_words}
 use Rattle.raid_text.specs.Used.{used_line, line_after}
 use Rattle.raid_text.proofs.Goes.{Goes, goes_none, goes_line, goes_then}
 use Rattle.raid_text.proofs.Holders.{within_parts}

@@ -1,8 +1,8 @@
 -- A text says one workload, or has one first fault.
-use Rattle.std.proofs.Common.{◌≡◌, ℕ, true, List, Result, Ok, Err, refl, sym, ◌∙◌, ◌⊎◌, inl, inr}
+use Rattle.std.proofs.Common.{◌≡◌, ℕ, List, Result, Ok, Err, refl, sym, ◌∙◌, ◌⊎◌, inl, inr}
 use Rattle.raid_tokens.specs.declared.fault.Fault.{Fault}
 use Rattle.raid_workload.specs.declared.workload.Workload.{Workload}
-use Rattle.raid_text.specs.Said.{Said, said, are_kept}
+use Rattle.raid_text.specs.Said.{Said, said}
 use Rattle.raid_text.specs.Outcome.{Refusal, Reads, IsFirstFault, outcome_of}
 use Rattle.raid_text.proofs.Given.{made, same_workload, same_said}
 use Rattle.raid_text.proofs.Leads.{reads_kept}

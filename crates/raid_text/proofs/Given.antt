@@ -1,5 +1,5 @@
 -- What parse gives, from what the text comes to.
-use Rattle.std.proofs.Common.{◌≡◌, ℕ, true, List, Result, Ok, Err, refl, ap, ◌∙◌, sym, subst}
+use Rattle.std.proofs.Common.{◌≡◌, ℕ, true, List, Result, Ok, Err, ap, ◌∙◌, sym, subst}
 use Rattle.std.proofs.Math.Bool.{Bool-set}
 use Rattle.std.specs.Prelude.{IfOk, IfErr}
 use Rattle.raid_workload.specs.declared.workload.Workload.{Workload}

@@ -1,11 +1,9 @@
 -- The lines before the body, as they are written, are read again.
-use Rattle.std.proofs.Common.{◌≡◌, ℕ, ◌+◌, ◌<◌, ◌≤◌, Bool, true, false, ◌&&◌, ◌||◌, leb, eqb, List, [], ◌∷◌, ◌++◌, length, map, Some, Ok, refl, sym, ap, ◌∙◌, arith, subst, append_assoc, codes, inl, inr}
-use Rattle.std.specs.List.{list_all}
+use Rattle.std.proofs.Common.{◌≡◌, ℕ, ◌+◌, ◌<◌, ◌≤◌, Bool, true, false, ◌&&◌, ◌||◌, leb, eqb, List, [], ◌∷◌, ◌++◌, length, map, Some, refl, sym, arith, subst, append_assoc, codes, inl, inr}
 use Rattle.std.specs.Fmt as fmt
 use Rattle.std.proofs.lemmas.Bool.{leb-true, lt-leb, cases_Bool, eqb-true, eqb-false, and_parts}
 use Rattle.std.proofs.lemmas.Fmt.{decimal_digit}
 use Rattle.std.proofs.lemmas.List.{append-nil, length-append}
-use Rattle.raid_scan.specs.Words.{is_plain}
 use Rattle.raid_tokens.specs.declared.fault.Fault.TheVariants as faults
 use Rattle.raid_tokens.specs.Words.{end_at}
 use Rattle.raid_tokens.proofs.Written.{number_plain, value_plain, name_plain}
@@ -13,7 +11,6 @@ use Rattle.raid_tokens.proofs.Again.{keyword_again, name_at_again, number_at_aga
 use Rattle.raid_workload.specs.Rules.{is_within, are_restarts, are_items}
 use Rattle.raid_workload.specs.declared.workload.ItemLine.{ItemLine}
 use Rattle.raid_text.specs.declared.state.State.{State}
-use Rattle.raid_text.specs.declared.state.Place.TheVariants as places
 use Rattle.raid_text.specs.Head.{version_of, version_line, after_sites, sites_line, restarts_line, item_line}
 use Rattle.raid_text.specs.Said.{opening}
 use Rattle.raid_text.specs.Spelling.{version_words, sites_words, restarts_lines, site_word, item_words}
@@ -21,7 +18,7 @@ use Rattle.raid_text.specs.Used.{used_line, line_after}
 use Rattle.raid_text.proofs.Goes.{Goes, goes_none, goes_line, goes_then}
 use Rattle.raid_text.proofs.Holders.{within_parts}
 use Rattle.raid_text.proofs.HoldersAgain.{holders_again}
-use Rattle.raid_text.proofs.Items.{IsItem, item_parts, item_behind, item_new}
+use Rattle.raid_text.proofs.Items.{item_parts, item_behind, item_new}
 use Rattle.raid_text.proofs.States.{at_sites, at_restarts, at_items}
 
 version_one : version_of (codes "workload") (fmt.decimal 1 ∷ []) ≡ Some 1

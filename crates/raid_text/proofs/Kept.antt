@@ -1,23 +1,20 @@
 -- Each line before the body keeps the rules, given that the lines before it did.
-use Rattle.std.proofs.Common.{◌≡◌, ℕ, ◌+◌, ◌<◌, ◌≤◌, Bool, true, false, cond, not, ◌&&◌, ◌||◌, eqb, leb, ℤ, List, [], ◌∷◌, ◌++◌, length, map, Option, Some, None, Result, Ok, Err, refl, sym, ap, ◌∙◌, arith, subst, append_assoc, codes, inl, inr, ◌⊎◌}
+use Rattle.std.proofs.Common.{◌≡◌, ℕ, ◌+◌, Bool, true, false, cond, not, ◌&&◌, ◌||◌, eqb, leb, List, [], ◌∷◌, ◌++◌, length, Option, Some, None, Ok, refl, arith, subst, codes, inl, inr, ◌⊎◌}
 use Rattle.std.specs.Prelude.{bytes_eq, is_some}
 use Rattle.std.specs.List.{list_any, position_from}
 use Rattle.std.proofs.lemmas.Bool.{le-leb, leb-false, ne_eqb, and_parts, cases_Bool}
-use Rattle.std.proofs.lemmas.List.{length-append, map_push}
+use Rattle.std.proofs.lemmas.List.{length-append}
 use Rattle.std.proofs.lemmas.List.Folds.{list_any-append}
-use Rattle.raid_base.specs.declared.names.Site.{Site}
 use Rattle.raid_scan.specs.Words.{Word}
-use Rattle.raid_tokens.specs.declared.fault.Fault.{Fault}
 use Rattle.raid_tokens.specs.declared.fault.Fault.TheVariants as faults
-use Rattle.raid_tokens.specs.Reading.{◌>>=◌}
 use Rattle.raid_tokens.specs.Words.{keyword_at, name_at, number_at, value_at, end_at}
 use Rattle.raid_tokens.proofs.Fits.{value_is}
-use Rattle.raid_tokens.proofs.Takes.{bind_ok, test_ok, ok_is, number_at_ok, name_at_ok, value_at_ok}
+use Rattle.raid_tokens.proofs.Takes.{bind_ok, ok_is, number_at_ok, name_at_ok, value_at_ok}
 use Rattle.raid_workload.specs.Rules.{is_within, are_restarts, is_item, are_items}
 use Rattle.raid_workload.specs.declared.workload.ItemLine.{ItemLine}
 use Rattle.raid_text.specs.declared.state.State.{State}
 use Rattle.raid_text.specs.declared.state.Place.TheVariants as places
-use Rattle.raid_text.specs.Head.{unless, version_of, with_version, version_line, after_sites, sites_line, restarts_line, holders_at, item_line}
+use Rattle.raid_text.specs.Head.{version_of, with_version, version_line, after_sites, sites_line, restarts_line, holders_at, item_line}
 use Rattle.raid_text.specs.Names.{names_of, place_of}
 use Rattle.raid_text.specs.Said.{said_by, opening}
 use Rattle.raid_text.proofs.Holders.{unless_ok, within, within_parts, holders_ok}

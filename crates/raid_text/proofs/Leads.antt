@@ -1,6 +1,5 @@
 -- What is said keeps the rules, line by line.
-use Rattle.std.proofs.Common.{◌≡◌, ℕ, ◌+◌, ◌≤◌, Bool, true, false, cond, ◌||◌, eqb, List, [], ◌∷◌, length, map, Result, Ok, Err, refl, sym, ap, ◌∙◌, subst, codes, inl, inr}
-use Rattle.std.specs.Prelude.{if◌then◌else◌}
+use Rattle.std.proofs.Common.{◌≡◌, ℕ, ◌+◌, ◌≤◌, Bool, true, false, cond, ◌||◌, eqb, List, [], ◌∷◌, length, Result, Ok, Err, refl, sym, ◌∙◌, subst, codes, inl, inr}
 use Rattle.std.proofs.lemmas.List.{length-map}
 use Rattle.raid_program.specs.declared.program.Statement.{Statement}
 use Rattle.raid_scan.specs.Words.{Word, words_by_line}
@@ -13,7 +12,7 @@ use Rattle.raid_workload.specs.declared.workload.ItemLine.{ItemLine}
 use Rattle.raid_text.specs.declared.state.State.{State}
 use Rattle.raid_text.specs.declared.state.Place.{Place}
 use Rattle.raid_text.specs.declared.state.Place.TheVariants as places
-use Rattle.raid_text.specs.Head.{version_line, sites_line, restarts_line, item_line, open_line}
+use Rattle.raid_text.specs.Head.{version_line, sites_line, restarts_line, open_line}
 use Rattle.raid_text.specs.Body.{done_line, end_line}
 use Rattle.raid_text.specs.Names.{names_of}
 use Rattle.raid_text.specs.Statements.{read_at, write_at, stop_if_at}

@@ -1,21 +1,20 @@
 -- Programs, as they are written, are read again.
-use Rattle.std.proofs.Common.{◌≡◌, ℕ, ◌+◌, ◌<◌, ◌≤◌, Bool, true, false, ◌&&◌, leb, ltb, List, [], ◌∷◌, ◌++◌, length, map, Some, Ok, refl, sym, ap, ◌∙◌, arith, subst, append_assoc, codes}
+use Rattle.std.proofs.Common.{◌≡◌, ℕ, ◌+◌, ◌<◌, ◌≤◌, true, false, ◌&&◌, leb, ltb, List, [], ◌∷◌, ◌++◌, length, map, Ok, refl, sym, ◌∙◌, arith, subst, append_assoc, codes}
 use Rattle.std.specs.List.{flat_map, list_all}
 use Rattle.std.proofs.lemmas.Bool.{lt-leb, leb-true, ltb-true, and_parts}
 use Rattle.std.proofs.lemmas.List.{append-nil, length-append}
 use Rattle.std.proofs.lemmas.List.Folds.{list_all-append}
-use Rattle.raid_base.specs.declared.names.Item.{Item}
 use Rattle.raid_base.specs.declared.names.Site.{Site}
 use Rattle.raid_program.specs.declared.program.Statement.{Statement}
 use Rattle.raid_program.specs.declared.program.Statement.TheVariants as statements
-use Rattle.raid_program.specs.Form.{is_expr, is_formed}
+use Rattle.raid_program.specs.Form.{is_expr}
 use Rattle.raid_scan.specs.Words.{Word, is_plain}
 use Rattle.raid_tokens.specs.declared.fault.Fault.TheVariants as faults
 use Rattle.raid_tokens.specs.Words.{end_at}
 use Rattle.raid_tokens.specs.Spelled.{register_word}
 use Rattle.raid_tokens.proofs.Written.{number_plain, register_plain, name_plain}
 use Rattle.raid_tokens.proofs.Again.{keyword_again, number_at_again, name_at_again, register_at_again}
-use Rattle.raid_workload.specs.Rules.{is_site_of, names_items, is_expr_of_i64, is_of_i64, is_statement, is_homed}
+use Rattle.raid_workload.specs.Rules.{is_site_of, is_expr_of_i64, is_statement, is_homed}
 use Rattle.raid_workload.specs.declared.workload.ItemLine.{ItemLine}
 use Rattle.raid_workload.specs.declared.workload.Homed.{Homed}
 use Rattle.raid_text.specs.declared.state.State.{State}
@@ -23,7 +22,7 @@ use Rattle.raid_text.specs.declared.state.Place.TheVariants as places
 use Rattle.raid_text.specs.Body.{program_line, end_line}
 use Rattle.raid_text.specs.Names.{names_of}
 use Rattle.raid_text.specs.Statements.{item, item_at, ends, read_at, write_at, stop_if_at, statement_line}
-use Rattle.raid_text.specs.Spelling.{expr_words, name_of, site_word, statement_words, program_words, program_lines}
+use Rattle.raid_text.specs.Spelling.{expr_words, name_of, statement_words, program_words, program_lines}
 use Rattle.raid_text.specs.Used.{used_line, line_after}
 use Rattle.raid_text.proofs.Exprs.{IsExpr, expr_fits, expr_alone, expr_compared, expr_plain}
 use Rattle.raid_text.proofs.Goes.{Goes, goes_none, goes_line, goes_then}

@@ -1,11 +1,9 @@
 -- States at each place, and what the rules say of their parts.
-use Rattle.std.proofs.Common.{◌≡◌, ℕ, ◌<◌, ◌≤◌, Bool, true, false, ◌&&◌, eqb, leb, List, [], ◌∷◌, length, refl, arith}
+use Rattle.std.proofs.Common.{◌≡◌, ℕ, true, leb, List, [], ◌∷◌, length, refl}
 use Rattle.std.specs.List.{list_all}
-use Rattle.std.proofs.lemmas.Bool.{and_parts, and_from}
+use Rattle.std.proofs.lemmas.Bool.{and_parts}
 use Rattle.raid_base.specs.declared.verdict.Kind.{Kind}
-use Rattle.raid_base.specs.declared.verdict.Structure.{Structure}
-use Rattle.raid_base.specs.Sites.{site}
-use Rattle.raid_workload.specs.Rules.{is_within, are_restarts, are_items, are_switches, are_events, is_homed, is_workload}
+use Rattle.raid_workload.specs.Rules.{is_within, are_restarts, are_items, are_switches, are_events, is_homed}
 use Rattle.raid_workload.specs.declared.workload.ItemLine.{ItemLine}
 use Rattle.raid_workload.specs.declared.workload.Switch.{Switch}
 use Rattle.raid_workload.specs.declared.workload.Event.{Event}

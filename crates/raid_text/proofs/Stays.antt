@@ -1,7 +1,7 @@
 -- Each line of the body keeps the rules, given that the lines before it did.
-use Rattle.std.proofs.Common.{◌≡◌, ℕ, ◌<◌, ◌≤◌, Bool, true, false, not, ◌&&◌, eqb, leb, ltb, List, [], ◌∷◌, ◌++◌, length, map, Result, Ok, refl, sym, ◌∙◌, arith, subst, append_assoc, codes}
+use Rattle.std.proofs.Common.{◌≡◌, ℕ, ◌<◌, ◌≤◌, Bool, true, false, not, leb, ltb, List, [], ◌∷◌, ◌++◌, length, Result, Ok, refl, sym, ◌∙◌, arith, subst, append_assoc, codes}
 use Rattle.std.specs.List.{list_all}
-use Rattle.std.proofs.lemmas.Bool.{le-leb, leb-true, leb-false, ltb-false, and_parts}
+use Rattle.std.proofs.lemmas.Bool.{le-leb, leb-false, ltb-false, and_parts}
 use Rattle.std.proofs.lemmas.List.{length-append, append-nil}
 use Rattle.std.proofs.lemmas.List.Folds.{list_all-append}
 use Rattle.raid_base.specs.declared.names.Site.{Site}
@@ -12,7 +12,6 @@ use Rattle.raid_program.specs.declared.program.Statement.{Statement}
 use Rattle.raid_scan.specs.Words.{Word}
 use Rattle.raid_tokens.specs.declared.fault.Fault.{Fault}
 use Rattle.raid_tokens.specs.declared.fault.Fault.TheVariants as faults
-use Rattle.raid_tokens.specs.Reading.{◌>>=◌}
 use Rattle.raid_tokens.specs.Words.{keyword_at, number_at, end_at}
 use Rattle.raid_tokens.proofs.Takes.{bind_ok, ok_is, number_at_ok}
 use Rattle.raid_workload.specs.Rules.{is_within, is_site_of, is_kind, is_method_for, are_switches, is_stopped, is_turn, are_events, is_statement, is_homed}

@@ -1,10 +1,9 @@
 -- What is written for a workload reads as that workload.
-use Rattle.std.proofs.Common.{◌≡◌, ℕ, ◌+◌, ◌≤◌, true, [], ◌∷◌, List, length, ap, ◌∙◌, arith}
+use Rattle.std.proofs.Common.{[], ◌∷◌, List, ap, ◌∙◌, arith}
 use Rattle.std.proofs.lemmas.Bool.{leb-true}
 use Rattle.raid_base.specs.Sites.{site}
 use Rattle.raid_scan.specs.Words.{Word}
 use Rattle.raid_scan.proofs.Written.{read_back}
-use Rattle.raid_tokens.specs.declared.fault.Fault.{Fault}
 use Rattle.raid_workload.specs.declared.workload.Workload.{Workload}
 use Rattle.raid_text.specs.declared.state.State.{State}
 use Rattle.raid_text.specs.declared.state.Place.TheVariants as places

@@ -1,5 +1,5 @@
 -- The lines of the body: what each says, given the lines before it, or its first fault.
-use Rattle.std.specs.Prelude.{ℕ, Bool, not, nat_lt, nat_le, List, [], ◌∷◌, ◌++◌, length, Result, Ok, Err, codes}
+use Rattle.std.specs.Prelude.{ℕ, Bool, not, nat_lt, nat_le, List, [], ◌∷◌, ◌++◌, length, Result, Ok, codes}
 use Rattle.raid_base.specs.declared.verdict.Kind.{Kind}
 use Rattle.raid_base.specs.declared.verdict.Structure.{Structure}
 use Rattle.raid_base.specs.Sites.{site}

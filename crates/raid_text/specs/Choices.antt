@@ -1,5 +1,5 @@
 -- Words of which a line has one of a few.
-use Rattle.std.specs.Prelude.{Bool, true, false, if◌then◌else◌, List, [], ◌∷◌, Option, Some, None, Result, Ok, Err, codes, bytes_eq}
+use Rattle.std.specs.Prelude.{if◌then◌else◌, List, [], ◌∷◌, Option, Some, None, Result, Ok, Err, codes, bytes_eq}
 use Rattle.raid_scan.specs.Words.{Word}
 use Rattle.raid_tokens.specs.declared.fault.Fault.{Fault}
 use Rattle.raid_tokens.specs.declared.fault.Fault.TheVariants as faults

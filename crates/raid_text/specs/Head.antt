@@ -8,7 +8,6 @@ use Rattle.raid_tokens.specs.declared.fault.Fault.{Fault}
 use Rattle.raid_tokens.specs.declared.fault.Fault.TheVariants as faults
 use Rattle.raid_tokens.specs.Reading.{◌>>=◌}
 use Rattle.raid_tokens.specs.Words.{keyword_at, name_at, number_of, number_at, value_at, end_at}
-use Rattle.raid_workload.specs.declared.workload.ItemLine.{ItemLine}
 use Rattle.raid_text.specs.declared.state.State.{State}
 use Rattle.raid_text.specs.declared.state.Place.{Place}
 use Rattle.raid_text.specs.declared.state.Place.TheVariants as places

@@ -14,22 +14,12 @@ use raid_program::{Expr, Program, Statement, Term};
 use raid_workload::{Event, Homed, ItemLine, Switch, Workload};
 use std::alloc::Global;
 
-/// Bytes behind those that stand there.
-fn put(out: &mut Bytes, bytes: &[u8]) -> Result<(), NoMemory>
-    ensures { OnOk result (out.new ≡ out.old ++ bytes.now) }
-{
-    for byte in bytes {
-        out.push(*byte)?;
-    }
-    Ok(())
-}
-
 /// A space, and a word.
 fn put_word(out: &mut Bytes, word: &[u8]) -> Result<(), NoMemory>
     ensures { OnOk result (out.new ≡ out.old ++ (0x20 ∷ word.now)) }
 {
-    put(out, b" ")?;
-    put(out, word)
+    out.push_all(b" ")?;
+    out.push_all(word)
 }
 
 /// A space, and a number.
@@ -58,7 +48,7 @@ fn put_register(out: &mut Bytes, r: u8) -> Result<(), NoMemory>
     ensures { OnOk result (out.new ≡ out.old ++ (0x20 ∷ register_word r)) }
 {
     put_word(out, b"r")?;
-    put(out, Buffer::new().format(u32::from(r)).as_bytes())?;
+    out.push_all(Buffer::new().format(u32::from(r)).as_bytes())?;
     Ok(())
 }
 
@@ -92,12 +82,12 @@ fn item_line(out: &mut Bytes, sites: u8, item: &ItemLine) -> Result<(), NoMemory
     requires few { sites ≤ 8 }
     ensures { OnOk result (out.new ≡ out.old ++ line_text (item_words item.now)) }
 {
-    put(out, b"item")?;
+    out.push_all(b"item")?;
     put_word(out, item.name.as_slice())?;
     put_value(out, item.value)?;
     put_word(out, b"at")?;
     put_sites(out, item.holders)?;
-    put(out, b"\n")
+    out.push_all(b"\n")
 }
 
 /// A kind's word.
@@ -137,34 +127,34 @@ fn method_word(method: Method) -> &'static [u8]
 fn sites_line(out: &mut Bytes, sites: u8, together: u8) -> Result<(), NoMemory>
     ensures { OnOk result (out.new ≡ out.old ++ line_text (sites_words sites together)) }
 {
-    put(out, b"sites")?;
+    out.push_all(b"sites")?;
     put_number(out, u32::from(sites))?;
     put_word(out, b"together")?;
     put_number(out, u32::from(together))?;
-    put(out, b"\n")
+    out.push_all(b"\n")
 }
 
 /// The line that opens the body.
 fn open_line(out: &mut Bytes, kind: Kind, structure: Structure) -> Result<(), NoMemory>
     ensures { OnOk result (out.new ≡ out.old ++ line_text (open_words kind structure)) }
 {
-    put(out, b"open")?;
+    out.push_all(b"open")?;
     put_word(out, kind_word(kind))?;
     put_word(out, structure_word(structure))?;
-    put(out, b"\n")
+    out.push_all(b"\n")
 }
 
 /// The line of a switch.
 fn switch_line(out: &mut Bytes, switch: Switch) -> Result<(), NoMemory>
     ensures { OnOk result (out.new ≡ out.old ++ line_text (switch_words switch)) }
 {
-    put(out, b"switch")?;
+    out.push_all(b"switch")?;
     put_word(out, kind_word(switch.kind))?;
     put_word(out, b"by")?;
     put_word(out, method_word(switch.method))?;
     put_word(out, b"after")?;
     put_number(out, switch.trigger)?;
-    put(out, b"\n")
+    out.push_all(b"\n")
 }
 
 /// The line of a stop or a return.
@@ -172,14 +162,14 @@ fn event_line(out: &mut Bytes, event: Event) -> Result<(), NoMemory>
     ensures { OnOk result (out.new ≡ out.old ++ line_text (event_words event)) }
 {
     if event.stop {
-        put(out, b"stop")?;
+        out.push_all(b"stop")?;
     } else {
-        put(out, b"return")?;
+        out.push_all(b"return")?;
     }
     put_site(out, event.site)?;
     put_word(out, b"after")?;
     put_number(out, event.trigger)?;
-    put(out, b"\n")
+    out.push_all(b"\n")
 }
 
 /// A space, and a sign, true for plus.
@@ -231,33 +221,33 @@ fn statement_line(
 {
     match statement {
         Statement::Read { item, reg } => {
-            put(out, b"read")?;
+            out.push_all(b"read")?;
             put_name(out, items, *item)?;
             put_register(out, *reg)?;
         }
         Statement::Write { item, expr } => {
-            put(out, b"write")?;
+            out.push_all(b"write")?;
             put_name(out, items, *item)?;
             put_expr(out, expr)?;
         }
         Statement::StopIf { left, right } => {
-            put(out, b"stop")?;
+            out.push_all(b"stop")?;
             put_word(out, b"if")?;
             put_expr(out, left)?;
             put_word(out, b"<")?;
             put_expr(out, right)?;
         }
     }
-    put(out, b"\n")
+    out.push_all(b"\n")
 }
 
 /// The line that begins a program.
 fn program_line(out: &mut Bytes, home: Site) -> Result<(), NoMemory>
     ensures { OnOk result (out.new ≡ out.old ++ line_text (program_words home)) }
 {
-    put(out, b"program")?;
+    out.push_all(b"program")?;
     put_site(out, home)?;
-    put(out, b"\n")
+    out.push_all(b"\n")
 }
 
 /// The lines of a program's statements.
@@ -278,7 +268,7 @@ fn put_program(out: &mut Bytes, items: &[ItemLine], homed: &Homed) -> Result<(),
 {
     program_line(out, homed.home)?;
     put_statements(out, items, &homed.program)?;
-    put(out, b"end\n")
+    out.push_all(b"end\n")
 }
 
 /// The lines of programs.
@@ -333,14 +323,14 @@ fn put_events(out: &mut Bytes, events: &[Event]) -> Result<(), NoMemory>
 fn put_head(out: &mut Bytes, workload: &Workload) -> Result<(), NoMemory>
     ensures { OnOk result (out.new ≡ out.old ++ flat_map line_text (version_words workload.now.version ∷ sites_words workload.now.sites workload.now.together ∷ restarts_lines workload.now.version workload.now.restarts)) }
 {
-    put(out, b"workload")?;
+    out.push_all(b"workload")?;
     put_number(out, u32::from(workload.version))?;
-    put(out, b"\n")?;
+    out.push_all(b"\n")?;
     sites_line(out, workload.sites, workload.together)?;
     if workload.version == 2 {
-        put(out, b"restarts")?;
+        out.push_all(b"restarts")?;
         put_number(out, u32::from(workload.restarts))?;
-        put(out, b"\n")?;
+        out.push_all(b"\n")?;
     }
     Ok(())
 }
@@ -360,7 +350,7 @@ fn put_workload(out: &mut Bytes, workload: &Workload) -> Result<(), NoMemory>
         workload.items.as_slice(),
         workload.programs.as_slice(),
     )?;
-    put(out, b"done\n")?;
+    out.push_all(b"done\n")?;
     Ok(())
 }
 

@@ -23,4 +23,4 @@ returns c =
     let e5 = rw c.as_slice-4.ensures at c.in_ok-put_copies.ensures in
     let all : c.put_copies.new.out ++ codes "done\n" ≡ c.args.out.now ++ print_of w r =
     rw (e5, e4, e3, e2, e1) (parts c.args.out.now (codes "report" ∷ decimal w.version ∷ []) (entry_lines w 1 r.entries) (order_words w r.order) (map (final_words w) r.finals) (map (copy_words w) r.copies) (codes "done" ∷ [])) in
-    subst (λ (text : List ℕ). OnOk c.put.result (c.put.new.out ≡ text)) all c.put.ensures
+    subst (λ (text : List ℕ). OnOk c.push_all.result (c.push_all.new.self ≡ text)) all c.push_all.ensures.ok

@@ -1,5 +1,5 @@
-use Rattle.std.proofs.Common.{◌≡◌, ◌++◌, ◌∙◌, ap, sym, map, List, ℕ, length, drop, append_assoc, ◌+◌}
-use Rattle.std.specs.List.{flat_map, list_all}
+use Rattle.std.proofs.Common.{◌∙◌, map, length, drop, append_assoc, ◌+◌}
+use Rattle.std.specs.List.{flat_map}
 use Rattle.std.proofs.lemmas.Bool.{and_parts}
 use Rattle.raid_workload.specs.Rules.{is_statement}
 use Rattle.raid_text.specs.Spelling.{line_text, statement_words}

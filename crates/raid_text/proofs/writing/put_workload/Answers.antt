@@ -23,5 +23,5 @@ returns c =
     let e4 = rw c.as_slice-2.ensures at c.in_ok-put_switches.ensures in
     let e5 = rw c.as_slice-3.ensures at c.in_ok-put_events.ensures in
     let e6 = rw (c.as_slice-4.ensures, c.as_slice-5.ensures) at c.in_ok-put_programs.ensures in
-    let e7 = c.in_ok-put.ensures in
+    let e7 = c.in_ok-push_all.ensures.ok in
     rw (e7, e6, e5, e4, e3, e2, e1) (parts c.args.out.now (version_words w.version) (sites_words w.sites w.together) (restarts_lines w.version w.restarts) (map item_words w.items) (open_words w.kind w.structure) (map switch_words w.switches) (map event_words w.events) (flat_map (program_lines w.items) w.programs) (codes "done" ∷ []))
