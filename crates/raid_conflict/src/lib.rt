@@ -1,0 +1,10 @@
+//! The conflict graph of a list of noted entries: what a transaction reaches, whether an action would close a
+//! cycle, and the order of the committed transactions.
+#![tactic(auto)]
+
+mod chains;
+mod found;
+pub mod graph;
+mod tables;
+
+pub use graph::Graph;
