@@ -1,2 +1,4 @@
+pub mod Extend
 pub mod Marks
+pub mod Reached
 pub mod Stand

@@ -1,11 +1,14 @@
 -- How many are marked.
-use Rattle.std.proofs.Common.{◌≡◌, ℕ, zero, suc, ◌+◌, ◌<◌, ◌≤◌, Bool, true, false, List, [], ◌∷◌, ◌++◌, ◌&&◌, not, length, length-append, get_or, set, cond, arith, refl, sym, ◌∙◌, ap, subst}
+use Rattle.std.proofs.Common.{◌≡◌, ℕ, zero, suc, ◌+◌, ◌<◌, ◌≤◌, Bool, true, false, List, [], ◌∷◌, ◌++◌, ◌&&◌, ◌||◌, ◌==◌, if◌then◌else◌, inl, inr, not, length, length-append, get_or, set, cond, arith, refl, sym, ◌∙◌, ap, subst}
 use Rattle.std.specs.List.{count_by}
 use Rattle.std.proofs.lemmas.List.Sums.{count_by-le-length, sum_by-set, sum_by-append}
 use Rattle.std.proofs.lemmas.Grind.{common_steps}
 use Rattle.raid_base.specs.declared.names.Txn.{Txn}
-use Rattle.raid_base.specs.Names.{has_txn}
-use Rattle.raid_conflict.specs.Found.{is_marked, Agrees}
+use Rattle.raid_base.specs.Names.{is_txn, has_txn}
+use Rattle.raid_conflict.specs.Found.{is_marked, Agrees, Longer}
+use Rattle.std.proofs.lemmas.Bool.{cases_Bool}
+use Rattle.raid_rules.proofs.Push.{same_txn}
+use Rattle.std.proofs.lemmas.List.{get_or_append_left}
 
 abbrev pub marked : List Bool → ℕ
 marked marks = count_by (λ b. b) marks
@@ -62,3 +65,29 @@ pub agrees_none : (marks after : List Bool) (list : List Txn) → Agrees marks l
 agrees_none marks after list a h =
     let none : (t : Txn) → is_marked after t ≡ false = λ t. grind (arith, common_steps, h t, a.marked t) in
     record { marked = none; counted = sym (count_none after (λ k. none (record { 0 = k }))) }
+
+-- who is in a list after one was added, if it wasn't there
+pub has_added : (list : List Txn) (t u : Txn) → has_txn (if has_txn list t then list else list ++ t ∷ []) u ≡ (has_txn list u || is_txn u t)
+has_added list t u = go (has_txn list t) refl
+  where
+    go : (b : Bool) → has_txn list t ≡ b → has_txn (if b then list else list ++ t ∷ []) u ≡ (has_txn list u || is_txn u t)
+    go false e = grind (arith, common_steps)
+    go true e = elim (cases_Bool (t.0 == u.0)) [
+      | inl q ↦ let h : has_txn list u ≡ true = subst (λ z. has_txn list z ≡ true) (same_txn t u q) e in grind (arith, common_steps, h)
+      | inr q ↦ grind (arith, common_steps, q)
+    ]
+
+-- the list begins as it did
+pub longer_added : (list : List Txn) (t : Txn) → Longer list (if has_txn list t then list else list ++ t ∷ [])
+longer_added list t = go (has_txn list t)
+  where
+    go : (b : Bool) → Longer list (if b then list else list ++ t ∷ [])
+    go true = record { no_less = omega arith; same = λ k d l. refl }
+    go false = record { no_less = omega (arith, length-append list (t ∷ [])); same = λ k d l. get_or_append_left list (t ∷ []) d k l }
+
+-- and once more
+pub longer_on : (xs ys zs : List Txn) → Longer xs ys → Longer ys zs → Longer xs zs
+longer_on xs ys zs a b = record {
+  no_less = omega (arith, a.no_less, b.no_less);
+  same = λ k d l. b.same k d (omega (arith, l, a.no_less)) ∙ a.same k d l;
+}

@@ -1,7 +1,7 @@
-ghost use Rattle.std.specs.Prelude.{◌≡◌, ◌<◌, ◌≤◌, ◌+◌, ◌&&◌, not, true, false, max, ℕ, [], ◌∷◌, ◌++◌, length, vec_len, vec_capacity, count_by, slice_get, Some, IfOk, OnOk, OnErr, if◌then◌else◌};
+ghost use Rattle.std.specs.Prelude.{◌≡◌, ◌<◌, ◌≤◌, ◌+◌, ◌&&◌, ◌||◌, not, true, false, max, ℕ, [], ◌∷◌, ◌++◌, length, vec_len, vec_capacity, count_by, slice_index_or, IfOk, OnOk, OnErr, if◌then◌else◌};
 ghost use Rattle.raid_base.specs.declared.names.Txn.{Txn};
-ghost use Rattle.raid_base.specs.Names.{has_txn};
-ghost use Rattle.raid_conflict.specs.Found.{is_marked, Agrees};
+ghost use Rattle.raid_base.specs.Names.{is_txn, has_txn};
+ghost use Rattle.raid_conflict.specs.Found.{is_marked, Agrees, Longer};
 
 use raid_base::{NoMemory, Txn};
 use std::alloc::Global;
@@ -109,6 +109,8 @@ impl Found {
     pub fn add(&mut self, txn: Txn)
         requires { txn.0 < self.old.1 }
         ensures found { self.new.0 ≡ (if has_txn self.old.0 txn then self.old.0 else self.old.0 ++ txn ∷ []) }
+        ensures has { (t : Txn) → has_txn self.new.0 t ≡ (has_txn self.old.0 t || is_txn t txn) }
+        ensures longer { Longer self.old.0 self.new.0 }
         ensures places { self.new.1 ≡ self.old.1 }
     {
         mark(&mut self.marks, &mut self.list, txn);
@@ -125,7 +127,7 @@ impl Found {
     /// The transaction that was found as this one, counted from 0.
     pub fn get(&self, k: usize) -> Txn
         requires { k < length self.now.0 }
-        ensures { slice_get self.now.0 k ≡ Some result }
+        ensures { result ≡ slice_index_or self.now.0 k result }
     {
         self.list[k]
     }

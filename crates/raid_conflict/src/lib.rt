@@ -5,6 +5,8 @@
 mod chains;
 mod found;
 pub mod graph;
+pub mod laws;
+mod search;
 mod tables;
 
 pub use graph::Graph;
