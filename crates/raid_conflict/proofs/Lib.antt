@@ -1,4 +1,6 @@
 pub mod Extend
+pub mod Lists
 pub mod Marks
 pub mod Reached
 pub mod Stand
+pub mod Steps
