@@ -1,10 +1,11 @@
 -- Steps of a search over the tables.
-use Rattle.std.specs.Prelude.{◌≡◌, nat_lt, Bool, true, not, ◌&&◌, List, length}
+use Rattle.std.specs.Prelude.{◌≡◌, nat_lt, Bool, true, not, ◌&&◌, ◌||◌, List, length}
 use Rattle.std.specs.List.{list_any}
 use Rattle.raid_base.specs.declared.names.Txn.{Txn}
-use Rattle.raid_base.specs.Names.{is_txn}
+use Rattle.raid_base.specs.Names.{is_txn, has_txn}
 use Rattle.raid_rules.specs.declared.conflict.Action.{Action}
 use Rattle.raid_rules.specs.Conflict.{precedes}
+use Rattle.raid_rules.specs.Verdicts.{Question, reading, writing}
 use Rattle.raid_conflict.specs.declared.tables.Tables.{Tables}
 use Rattle.raid_conflict.specs.Tables.{chain_at, mark}
 
@@ -26,3 +27,15 @@ is_step t u v = not (mark t u).aborted && leads_on t (chain_at t.own.items u.0) 
 
 abbrev pub Step : Tables → Txn → Txn → Type 0
 Step t u v = is_step t u v ≡ true
+
+-- among these actions is one of a transaction that was found, or a write of one
+abbrev pub is_found : List Txn → List Action → Bool
+is_found found actions = list_any (λ a. has_txn found a.by) actions
+
+abbrev pub is_writer_found : List Txn → List Action → Bool
+is_writer_found found actions = list_any (λ a. a.writes && has_txn found a.by) actions
+
+-- the asker was found, or one whom the asked action would follow
+abbrev pub closes : Tables → List Txn → Question → Bool
+closes t found (reading u k x) = has_txn found u || is_writer_found found (chain_at t.items.items x.0)
+closes t found (writing u k writes) = has_txn found u || list_any (λ p. is_found found (chain_at t.items.items p.0.0)) writes

@@ -1,12 +1,15 @@
-ghost use Rattle.std.specs.Prelude.{◌≡◌, ℕ, List, [], ◌∷◌, ◌++◌, IfOk, OnOk, OnErr};
+ghost use Rattle.std.specs.Prelude.{◌≡◌, false, ℕ, List, [], ◌∷◌, ◌++◌, IfOk, OnOk, OnErr};
 ghost use Rattle.raid_base.specs.declared.entry.Noted.{Noted};
-ghost use Rattle.raid_conflict.specs.Listed.{noted_as, Extends};
+ghost use Rattle.raid_conflict.specs.Listed.{noted_as, Extends, reaches_before};
+ghost use Rattle.raid_rules.specs.History.{has_ended};
+ghost use Rattle.raid_rules.specs.Verdicts.{asked, asker, closes_cycle};
 ghost use Rattle.raid_conflict.specs.Tables as words;
 ghost use Rattle.raid_conflict.specs.Tables.{Stands};
 
 use crate::found::Found;
 use crate::tables::Tables;
-use raid_base::{Entry, NoMemory, Txn};
+use crate::{closing, search};
+use raid_base::{Ask, Entry, NoMemory, Txn};
 use std::alloc::Global;
 use std::marker::Model;
 
@@ -59,5 +62,29 @@ impl Graph {
     {
         self.found.make_places(places_of(entry))?;
         self.tables.note(at, entry)
+    }
+
+    /// Whether the transaction reaches one whose stamp is less, over each list without a Commit or Abort of it.
+    /// A transaction without a Begin in the list has the stamp 0.
+    pub fn reaches_before(&mut self, txn: Txn, before: u32) -> bool
+        ensures answer { (view : List Noted) → Stands self.old view → has_ended view txn ≡ false → result ≡ reaches_before view txn before }
+        ensures stands { (view : List Noted) → Stands self.old view → Stands self.new view }
+    {
+        search::reach(&self.tables, &mut self.found, txn);
+        let answer = closing::any_before(&self.tables, self.found.as_slice(), before);
+        self.found.clear();
+        answer
+    }
+
+    /// Whether the edges have a cycle through the asking transaction once the asked action is the last, over each
+    /// list without a Commit or Abort of the asking transaction.
+    pub fn would_close(&mut self, ask: &Ask) -> bool
+        ensures answer { (view : List Noted) → Stands self.old view → has_ended view (asker (asked ask.now)) ≡ false → result ≡ closes_cycle view (asked ask.now) }
+        ensures stands { (view : List Noted) → Stands self.old view → Stands self.new view }
+    {
+        search::reach(&self.tables, &mut self.found, closing::asker(ask));
+        let answer = closing::closes(&self.tables, &self.found, ask);
+        self.found.clear();
+        answer
     }
 }

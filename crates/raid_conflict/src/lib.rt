@@ -3,6 +3,7 @@
 #![tactic(auto)]
 
 mod chains;
+mod closing;
 mod found;
 pub mod graph;
 pub mod laws;
