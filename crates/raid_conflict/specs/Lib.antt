@@ -1,3 +1,4 @@
+pub mod Arrange
 pub mod Found
 pub mod Listed
 pub mod Search

@@ -2,6 +2,7 @@
 //! cycle, and the order of the committed transactions.
 #![tactic(auto)]
 
+mod ahead;
 mod chains;
 mod closing;
 mod found;
