@@ -1,3 +1,4 @@
+pub mod Arranged
 pub mod Cycles
 pub mod Extend
 pub mod Lists

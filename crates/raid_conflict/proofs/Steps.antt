@@ -47,7 +47,7 @@ module _ (t : Tables) (view : List Noted) (s : Stands t view) where
       (λ a. ap (λ b. is_txn u a.by && b) (ap (λ l. is_after t a l v) (s.on a.item) ∙ any_filter (λ b. is_against t a b && is_txn v b.by) (λ b. is_item a.item b.item) (all_actions view))) (all_actions view))
 
   -- an edge, over all actions
-  pair_all : (u v : Txn) → list_any (λ e. is_txn u e.0 && is_txn v e.1) (edges view)
+  pub pair_all : (u v : Txn) → list_any (λ e. is_txn u e.0 && is_txn v e.1) (edges view)
       ≡ list_any (λ a. not (has_aborted view a.by) && list_any (λ b. not (has_aborted view b.by) && (precedes a b && (is_txn u a.by && is_txn v b.by))) (all_actions view)) (all_actions view)
   pair_all u v =
       any_pair (actions view) u v
@@ -56,13 +56,13 @@ module _ (t : Tables) (view : List Noted) (s : Stands t view) where
       (λ a. ap (λ b. not (has_aborted view a.by) && b) (any_filter (λ b. precedes a b && (is_txn u a.by && is_txn v b.by)) (λ b. not (has_aborted view b.by)) (all_actions view))) (all_actions view)
 
   -- what an edge says of its two transactions
-  abbrev edge_to : (u v : Txn) → Action → Bool
+  abbrev pub edge_to : (u v : Txn) → Action → Bool
   edge_to u v a = list_any (λ b. not (has_aborted view b.by) && (precedes a b && (is_txn u a.by && is_txn v b.by))) (all_actions view)
 
-  abbrev edge_from : (u v : Txn) → Action → Bool
+  abbrev pub edge_from : (u v : Txn) → Action → Bool
   edge_from u v a = not (has_aborted view a.by) && edge_to u v a
 
-  edge_first : (u v : Txn) (a : Action) → edge_to u v a ≡ true → is_txn u a.by ≡ true
+  pub edge_first : (u v : Txn) (a : Action) → edge_to u v a ≡ true → is_txn u a.by ≡ true
   edge_first u v a h = from_any (is_txn u a.by ≡ true) (λ b. not (has_aborted view b.by) && (precedes a b && (is_txn u a.by && is_txn v b.by))) (λ b i. grind (arith, common_steps, i)) (all_actions view) h
 
   edge_stays : (u v : Txn) → list_any (edge_from u v) (all_actions view) ≡ true → not (has_aborted view u) ≡ true

@@ -2,14 +2,16 @@ ghost use Rattle.std.specs.Prelude.{◌≡◌, false, ℕ, List, [], ◌∷◌, 
 ghost use Rattle.raid_base.specs.declared.entry.Noted.{Noted};
 ghost use Rattle.raid_conflict.specs.Listed.{noted_as, Extends, reaches_before};
 ghost use Rattle.raid_rules.specs.History.{has_ended};
+ghost use Rattle.raid_rules.specs.Committed.{IsOrderOf};
 ghost use Rattle.raid_rules.specs.Verdicts.{asked, asker, closes_cycle};
 ghost use Rattle.raid_conflict.specs.Tables as words;
 ghost use Rattle.raid_conflict.specs.Tables.{Stands};
 
 use crate::found::Found;
 use crate::tables::Tables;
-use crate::{closing, search};
+use crate::{arrange, closing, search};
 use raid_base::{Ask, Entry, NoMemory, Txn};
+use raid_rules::order::Order;
 use std::alloc::Global;
 use std::marker::Model;
 
@@ -86,5 +88,20 @@ impl Graph {
         let answer = closing::closes(&self.tables, &self.found, ask);
         self.found.clear();
         answer
+    }
+
+    /// The order of the committed transactions, over each list that the graph stands for: whole, with the serial
+    /// order, or cyclic, exactly where they have a cycle of conflicts. Want of memory is the only error.
+    pub fn order(&self, alloc: Global) -> Result<Order, NoMemory>
+        ensures { IfOk result (λ order. (view : List Noted) → Stands self.now view → IsOrderOf view order) }
+    {
+        arrange::arranged(alloc, &self.tables)
+    }
+
+    /// Forgets all entries: the graph stands for the empty list. Takes no memory.
+    pub fn clear(&mut self)
+        ensures { Stands self.new [] }
+    {
+        self.tables.clear();
     }
 }

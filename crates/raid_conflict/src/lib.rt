@@ -3,6 +3,7 @@
 #![tactic(auto)]
 
 mod ahead;
+mod arrange;
 mod chains;
 mod closing;
 mod found;

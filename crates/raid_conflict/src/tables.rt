@@ -35,7 +35,7 @@ pub struct Tables {
 }
 
 /// Makes a place in a table, which is blank where it is new. After want of memory too the table says what it said.
-fn grow<T: Copy + Drop>(table: &mut Vec<T>, place: usize, blank: T) -> Result<(), NoMemory>
+pub fn grow<T: Copy + Drop>(table: &mut Vec<T>, place: usize, blank: T) -> Result<(), NoMemory>
     ensures ok { OnOk result (place < vec_len table.new) }
     ensures same { (k : ℕ) → slice_index_or table.new.items k blank ≡ slice_index_or table.old.items k blank }
 {
@@ -160,5 +160,16 @@ impl Tables {
             | Entry::Up { .. }
             | Entry::Clear { .. } => Ok(()),
         }
+    }
+
+    /// Forgets all: the tables of the empty list.
+    pub fn clear(&mut self)
+        ensures stands { words.Stands self.new [] }
+        ensures none { vec_len self.new.own ≡ 0 }
+    {
+        self.items.clear();
+        self.own.clear();
+        self.marks.clear();
+        self.committed.clear();
     }
 }
