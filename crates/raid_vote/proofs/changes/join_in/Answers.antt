@@ -1,0 +1,12 @@
+use Rattle.std.proofs.Common.{ap, ◌∙◌, set}
+use Rattle.raid_steps.specs.Programs.{with_vote}
+use Rattle.raid_vote.specs.Ballots as words
+use Rattle.raid_vote.specs.declared.changes.Ballot.{Ballot}
+use Rattle.raid_vote.proofs.Mapped.{changed_more}
+use Rattle.raid_vote.proofs.changes.join_in.Goals as goal
+
+pub loop-ballot-preserved : goal.loop-ballot-preserved
+loop-ballot-preserved c =
+    let f = words.changed c.args.txn (with_vote c.args.site) in
+    ap (λ (b : Ballot). set c.loop-ballot.ballots c.loop-ballot.ballot-index b) c.joined.ensures
+    ∙ changed_more f c.args.ballots.now c.loop-ballot.ballots c.loop-ballot.ballot-index c.ballot-item.result c.loop-ballot.invariant c.loop-ballot-test.true
