@@ -1,4 +1,5 @@
-ghost use Rattle.std.specs.Prelude.{◌≡◌, ◌==◌, ℕ, ◌+◌, ◌<◌, List, [], ◌∷◌, ◌++◌, length, take, IfOk, OnOk, OnErr, Some, slice_get};
+ghost use Rattle.std.specs.Prelude.{◌≡◌, ◌==◌, ℕ, ◌+◌, ◌<◌, List, [], ◌∷◌, ◌++◌, length, take, filter, not, IfOk, OnOk, OnErr, Some, slice_get};
+ghost use Rattle.raid_base.specs.Names.{is_txn};
 
 use crate::names::{NoMemory, Txn};
 use crate::sites::Sites;
@@ -68,6 +69,13 @@ impl<T: Drop> Listed<T> {
         Ok(())
     }
 
+    /// Drops all values. Takes no memory.
+    pub fn clear(&mut self)
+        ensures { self.new ≡ [] }
+    {
+        self.held.clear();
+    }
+
     /// The value at a place, counted from 0.
     pub fn get(&self, k: usize) -> &T
         requires { k < length self.now }
@@ -81,6 +89,15 @@ impl<T: Drop> Listed<T> {
         ensures { result.now ≡ self.now }
     {
         self.held.as_slice()
+    }
+}
+
+impl Listed<Txn> {
+    /// Takes the transaction out, wherever it stands. The others keep their order. Takes no memory.
+    pub fn remove(&mut self, txn: Txn)
+        ensures { self.new ≡ filter (λ other. not (is_txn txn other)) self.old }
+    {
+        self.held.retain(|other| *other != txn);
     }
 }
 
