@@ -1,4 +1,4 @@
-ghost use Rattle.std.specs.Prelude.{◌≡◌, ◌<◌, [], true, false, IsTrue, IfOk, OnOk, OnErr};
+ghost use Rattle.std.specs.Prelude.{◌≡◌, ◌<◌, [], true, false, IsTrue, IfOk, OnOk, OnErr, if◌then◌else◌};
 ghost use Rattle.raid_legal.specs.Seen.{attempt};
 ghost use Rattle.raid_driver.specs.Drive as words;
 ghost use Rattle.raid_driver.specs.Drive.{Ascends, turn, txns_of, done_of, reads_of, writes_of, may_ask, begin, begin_next, next_txn, start, give, noting, lose, ended, cleared, again};
@@ -72,6 +72,13 @@ impl Driver {
         ensures { result ≡ self.now.finished }
     {
         self.finished
+    }
+
+    /// Whether each running program may ask once more: none has asked 4,294,967,295 times.
+    pub fn may_ask(&self) -> bool
+        ensures { result ≡ may_ask self.now.running }
+    {
+        tasks::may_ask(self.tasks.as_slice())
     }
 
     /// Begins a transaction: the sequencer is told, and its program goes on.
@@ -177,12 +184,14 @@ impl Driver {
         Ok(())
     }
 
-    /// Notes that another site serves the transaction's ask, where that ask is outstanding. Takes no memory.
+    /// Notes that another site serves the transaction's ask, where that ask is outstanding; does nothing on a driver
+    /// that is finished. Takes no memory.
     pub fn serving(&mut self, txn: Txn, ask: u32, site: Site)
-        requires { self.old.finished ≡ false }
-        ensures { self.new ≡ noting self.old txn ask site }
+        ensures { self.new ≡ (if self.old.finished then self.old else noting self.old txn ask site) }
     {
-        tasks::note(self.tasks.as_mut_slice(), txn, ask, site);
+        if !self.finished {
+            tasks::note(self.tasks.as_mut_slice(), txn, ask, site);
+        }
     }
 
     /// Lets each program ask again whose read the site was to serve, under its next number, least transaction
@@ -240,20 +249,18 @@ impl Driver {
         self.begin(alloc, workload, next, outs)
     }
 
-    /// The transactions that run here, ascending.
+    /// The transactions that run here, ascending. Of a finished driver nothing is said.
     pub fn running(&self) -> &TxnList
-        requires { self.now.finished ≡ false }
-        ensures is { result.now ≡ txns_of self.now.running }
-        ensures ascends { Ascends result.now }
+        ensures is { self.now.finished ≡ false → result.now ≡ txns_of self.now.running }
+        ensures ascends { self.now.finished ≡ false → Ascends result.now }
     {
         &self.running
     }
 
-    /// Those of them whose programs are done, ascending.
+    /// Those of them whose programs are done, ascending. Of a finished driver nothing is said.
     pub fn prepared(&self) -> &TxnList
-        requires { self.now.finished ≡ false }
-        ensures is { result.now ≡ done_of self.now.running }
-        ensures ascends { Ascends result.now }
+        ensures is { self.now.finished ≡ false → result.now ≡ done_of self.now.running }
+        ensures ascends { self.now.finished ≡ false → Ascends result.now }
     {
         &self.prepared
     }

@@ -105,6 +105,18 @@ pub fn lose(tasks: &mut [Task], site: Site, outs: &mut Outs) -> Result<(), NoMem
     Ok(())
 }
 
+/// Whether no program has asked as often as can be counted.
+pub fn may_ask(tasks: &[Task]) -> bool
+    ensures { result ≡ may_ask tasks.now }
+{
+    for task in tasks {
+        if task.asks == 4294967295 {
+            return false;
+        }
+    }
+    true
+}
+
 /// Takes the transaction's program out.
 pub fn remove(tasks: &mut Vec<Task>, txn: Txn)
     ensures { tasks.new.items ≡ filter (λ r. not (is_txn txn r.txn)) tasks.old.items }
