@@ -1,5 +1,5 @@
 -- What is left of a view in order, where only Begins and Reads are left, may be carried.
-use Rattle.std.proofs.Common.{Bool, ◌≡◌, ℕ, ◌<◌, true, false, not, List, refl, sym, ◌∙◌, get_or, filter}
+use Rattle.std.proofs.Common.{Bool, ◌≡◌, ◌<◌, true, not, List, refl, sym, get_or, filter}
 use Rattle.std.specs.List.{All}
 use Rattle.std.proofs.lemmas.List.Elements.{All-filter, filter_passes}
 use Rattle.std.proofs.lemmas.List.Kept.{AllPairs-filter}
@@ -57,7 +57,7 @@ left_is_a_carry keep view o starts = record {
 pub carried_is_a_carry : (view : List Noted) → IsInOrder view → IsCarry (carried view)
 carried_is_a_carry view o =
     left_is_a_carry (λ n. is_start (λ t. not (has_ended view t)) n.entry) view o
-      (λ k d l. any_start (λ t. not (has_ended view t)) (get_or (carried view) k d).entry (filter_passes (λ n. is_start (λ t. not (has_ended view t)) n.entry) view k d l))
+    (λ k d l. any_start (λ t. not (has_ended view t)) (get_or (carried view) k d).entry (filter_passes (λ n. is_start (λ t. not (has_ended view t)) n.entry) view k d l))
 
 pub without_is_a_carry : (c : List Noted) (t : Txn) → IsCarry c → IsCarry (filter (λ n. not (is_of t n.entry)) c)
 without_is_a_carry c t i = left_is_a_carry (λ n. not (is_of t n.entry)) c i.in_order (All-filter (λ n. not (is_of t n.entry)) (λ n. is_start (λ u. true) n.entry ≡ true) c i.starts)

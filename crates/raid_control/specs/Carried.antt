@@ -4,7 +4,6 @@ use Rattle.raid_base.specs.declared.entry.Entry.{Entry}
 use Rattle.raid_base.specs.declared.entry.Noted.{Noted}
 use Rattle.raid_base.specs.declared.verdict.Structure.{Structure}
 use Rattle.raid_base.specs.declared.verdict.Structure.TheVariants.{Native, GenericState}
-use Rattle.raid_base.specs.Names.{is_txn}
 use Rattle.raid_base.specs.declared.names.Txn.{Txn}
 use Rattle.raid_rules.specs.Entries.{is_begin, is_read}
 use Rattle.raid_rules.specs.History.{has_ended}

@@ -12,7 +12,11 @@ use raid_base::{Ask, Verdict};
 
 /// The verdicts of two controllers on one ask. Where both are of one kind and stand for one view that the ask fits, they answer alike,
 /// whatever their structures: a native controller and the generic state can't be told apart by their verdicts.
-pub fn judge_alike(first: &mut dyn Controller, second: &mut dyn Controller, ask: &Ask) -> (Verdict, Verdict)
+pub fn judge_alike(
+    first: &mut dyn Controller,
+    second: &mut dyn Controller,
+    ask: &Ask,
+) -> (Verdict, Verdict)
     requires kind { kind_of first.old ≡ kind_of second.old }
     ensures alike { (view : List Noted) → stands first.old view → stands second.old view → Fits view (asked ask.now) → result.0 ≡ result.1 }
     ensures first { (view : List Noted) → stands first.old view → stands first.new view }
@@ -25,5 +29,4 @@ pub fn judge_alike(first: &mut dyn Controller, second: &mut dyn Controller, ask:
 pub fn kept_are_a_carry()
     ensures carried { (view : List Noted) → IsInOrder view → IsCarry (carried view) }
     ensures without { (c : List Noted) (t : Txn) → IsCarry c → IsCarry (filter (λ n. not (is_of t n.entry)) c) }
-{
-}
+{}

@@ -6,7 +6,9 @@
 pub mod carry;
 pub mod controller;
 pub mod laws;
+pub mod rack;
 
 pub use carry::Carry;
 pub use controller::{Blocks, Controller};
 pub use laws::{judge_alike, kept_are_a_carry};
+pub use rack::{Rack, Slot};

@@ -1,0 +1,14 @@
+use Rattle.std.proofs.Common.{◌≡◌, ◌||◌, take}
+use Rattle.raid_base.specs.declared.names.Txn.{Txn}
+use Rattle.raid_base.specs.Names.{has_txn}
+use Rattle.raid_conflict.specs.Found.{Longer}
+use Rattle.raid_conflict.specs.Search.{is_after}
+use Rattle.raid_conflict.proofs.search.find_after.Given as goal
+
+-- those so far were found
+abbrev pub invariant-loop-other : goal.invariant-loop-other
+invariant-loop-other l = record {
+  found : (v : Txn) → has_txn l.found.0 v ≡ (has_txn l.fn.found.0 v || is_after l.tables l.action (take l.other-index l.others) v);
+  longer : Longer l.fn.found.0 l.found.0;
+  places : l.found.1 ≡ l.fn.found.1;
+}

@@ -1,0 +1,5 @@
+pub mod Arrange
+pub mod Found
+pub mod Listed
+pub mod Search
+pub mod Tables

@@ -1,0 +1,93 @@
+ghost use Rattle.std.specs.Prelude.{◌≡◌, ◌≤◌, ◌||◌, ◌↔◌, ℕ, true, [], vec_len, length};
+ghost use Rattle.raid_base.specs.declared.names.Txn.{Txn};
+ghost use Rattle.raid_base.specs.Names.{has_txn};
+ghost use Rattle.raid_rules.specs.Conflict.{Path};
+ghost use Rattle.raid_conflict.specs.Found.{Longer};
+ghost use Rattle.raid_conflict.specs.Search as words;
+ghost use Rattle.raid_conflict.specs.Tables.{chain_at};
+
+use crate::found::Found;
+use crate::tables::Tables;
+use raid_base::Txn;
+use raid_rules::conflict::{self, Action};
+
+/// Whether the second action stands after the first and conflicts with it, and its transaction has a place and
+/// isn't aborted.
+fn is_against(tables: &Tables, action: &Action, other: &Action) -> bool
+    ensures { result ≡ words.is_against tables.now action.now other.now }
+{
+    conflict::precedes(action, other)
+        && !tables.mark(other.by).aborted
+        && (other.by.0 as usize) < tables.own.len()
+}
+
+/// Finds the transactions of those of the actions that stand after one, and conflict with it.
+fn find_after(tables: &Tables, found: &mut Found, action: &Action, others: &[Action])
+    requires { vec_len tables.now.own ≤ found.old.1 }
+    ensures found { (v : Txn) → has_txn found.new.0 v ≡ (has_txn found.old.0 v || words.is_after tables.now action.now others.now v) }
+    ensures longer { Longer found.old.0 found.new.0 }
+    ensures places { found.new.1 ≡ found.old.1 }
+{
+    for other in others {
+        if is_against(tables, action, other) {
+            found.add(other.by);
+        }
+    }
+}
+
+/// Finds the transactions to which an action leads.
+fn find_from(tables: &Tables, found: &mut Found, action: &Action)
+    requires { vec_len tables.now.own ≤ found.old.1 }
+    ensures found { (v : Txn) → has_txn found.new.0 v ≡ (has_txn found.old.0 v || words.is_after tables.now action.now (chain_at tables.now.items.items action.now.item.0) v) }
+    ensures longer { Longer found.old.0 found.new.0 }
+    ensures places { found.new.1 ≡ found.old.1 }
+{
+    match tables.items.get(action.item.0 as usize) {
+        Some(chain) => find_after(tables, found, action, chain.actions.as_slice()),
+        None => {}
+    }
+}
+
+/// Finds the transactions to which the actions lead.
+fn find_all(tables: &Tables, found: &mut Found, actions: &[Action])
+    requires { vec_len tables.now.own ≤ found.old.1 }
+    ensures found { (v : Txn) → has_txn found.new.0 v ≡ (has_txn found.old.0 v || words.leads_on tables.now actions.now v) }
+    ensures longer { Longer found.old.0 found.new.0 }
+    ensures places { found.new.1 ≡ found.old.1 }
+{
+    for action in actions {
+        find_from(tables, found, action);
+    }
+}
+
+/// Finds the transactions to which edges from one lead.
+fn step(tables: &Tables, found: &mut Found, txn: Txn)
+    requires { vec_len tables.now.own ≤ found.old.1 }
+    ensures found { (v : Txn) → has_txn found.new.0 v ≡ (has_txn found.old.0 v || words.is_step tables.now txn v) }
+    ensures longer { Longer found.old.0 found.new.0 }
+    ensures places { found.new.1 ≡ found.old.1 }
+{
+    if tables.mark(txn).aborted {
+        return;
+    }
+    match tables.own.get(txn.0 as usize) {
+        Some(chain) => find_all(tables, found, chain.actions.as_slice()),
+        None => {}
+    }
+}
+
+/// Finds the transactions that one reaches, by paths of one step or more.
+pub fn reach(tables: &Tables, found: &mut Found, from: Txn)
+    requires empty { found.old.0 ≡ [] }
+    requires places { vec_len tables.now.own ≤ found.old.1 }
+    ensures reached { (v : Txn) → (has_txn found.new.0 v ≡ true) ↔ Path (words.Step tables.now) from v }
+    ensures places { found.new.1 ≡ found.old.1 }
+{
+    step(tables, found, from);
+    let mut next = 0;
+    while next < found.len() {
+        let txn = found.get(next);
+        step(tables, found, txn);
+        next += 1;
+    }
+}

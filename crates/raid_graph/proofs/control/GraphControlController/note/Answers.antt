@@ -1,0 +1,7 @@
+use Rattle.raid_base.specs.declared.verdict.Kind.TheVariants as kinds
+use Rattle.raid_conflict.proofs.Extend.{may_extend}
+use Rattle.raid_conflict.proofs.Stand.{on_ok}
+use Rattle.raid_graph.proofs.control.GraphControlController.note.Goals as goal
+
+pub returns-clause-ok : goal.returns-clause-ok
+returns-clause-ok c = on_ok c.add.result (λ f view known may. f view known (may_extend kinds.Graph view _ may)) c.add.ensures.ok

@@ -1,0 +1,5 @@
+pub mod Rows
+pub mod Stamps
+pub mod Commits
+pub mod Running
+pub mod Readers
