@@ -1,5 +1,5 @@
 -- The fail-locks: which lists of noted entries they stand for, and how an entry changes them.
-use Rattle.std.specs.Prelude.{◌≡◌, ◌≤◌, ℕ, Bool, not, ◌&&◌, ◌||◌, List, length, if◌then◌else◌, ⊤}
+use Rattle.std.specs.Prelude.{◌≡◌, ◌≤◌, nat_le, ℕ, Bool, true, not, ◌&&◌, ◌||◌, List, length, if◌then◌else◌}
 use Rattle.std.specs.List.{list_any}
 use Rattle.raid_base.specs.declared.names.Txn.{Txn}
 use Rattle.raid_base.specs.declared.names.Item.{Item}
@@ -33,16 +33,17 @@ pub record Stands (f : Parts) (sites : ℕ) (placement : List (List Site)) (p : 
   pub vector : f.vector ≡ vector sites p
   pub count : length f.vector ≡ sites
 
--- the sites that an entry says something of are those of the vector
-abbrev pub IsOfSites : ℕ → Site → Type 0
-IsOfSites sites s = (1 ≤ s.0) × (s.0 ≤ sites)
+-- the site is one of so many
+abbrev pub is_of_sites : ℕ → Site → Bool
+is_of_sites sites s = nat_le 1 s.0 && nat_le s.0 sites
 
-abbrev pub NamesSites : ℕ → Entry → Type 0
-NamesSites sites (Ack t s) = IsOfSites sites s
-NamesSites sites (Down s) = IsOfSites sites s
-NamesSites sites (Up s session) = IsOfSites sites s
-NamesSites sites (Clear s x version) = IsOfSites sites s
-NamesSites sites other = ⊤
+-- the site that an entry says something of is one of so many
+abbrev pub names_sites : ℕ → Entry → Bool
+names_sites sites (Ack t s) = is_of_sites sites s
+names_sites sites (Down s) = is_of_sites sites s
+names_sites sites (Up s session) = is_of_sites sites s
+names_sites sites (Clear s x version) = is_of_sites sites s
+names_sites sites other = true
 
 -- some site's copy of some item of the placement is locked
 abbrev pub is_any_locked : List (List Site) → List Noted → Bool

@@ -1,4 +1,4 @@
-ghost use Rattle.std.specs.Prelude.{◌≡◌, ◌≤◌, ◌&&◌, ◌||◌, ℕ, List, [], ◌∷◌, ◌++◌, length, filter, find, IfOk, OnOk, OnErr};
+ghost use Rattle.std.specs.Prelude.{◌≡◌, ◌≤◌, ◌&&◌, ◌||◌, true, ℕ, List, [], ◌∷◌, ◌++◌, length, filter, find, IfOk, OnOk, OnErr};
 ghost use Rattle.std.specs.List.{list_any};
 ghost use Rattle.raid_base.specs.declared.names.Site.{Site};
 ghost use Rattle.raid_base.specs.declared.names.Item.{Item};
@@ -101,7 +101,7 @@ impl FailLocks {
 
     /// A site acknowledges a transaction's writes.
     fn ack(&mut self, txn: Txn, site: Site)
-        requires { words.IsOfSites (length self.old.vector) site }
+        requires { words.is_of_sites (length self.old.vector) site ≡ true }
         ensures { Turns self.old self.new (entries.Ack txn site) }
     {
         self.debts.ack(txn, site);
@@ -109,7 +109,7 @@ impl FailLocks {
 
     /// A site goes down: its copies of what it hasn't acknowledged are locked.
     fn down(&mut self, site: Site)
-        requires { words.IsOfSites (length self.old.vector) site }
+        requires { words.is_of_sites (length self.old.vector) site ≡ true }
         ensures { Turns self.old self.new (entries.Down site) }
     {
         lock_unpaid(&mut self.locks, self.holders.as_slice(), &self.debts, site);
@@ -119,7 +119,7 @@ impl FailLocks {
 
     /// A site comes up in a session.
     fn up(&mut self, site: Site, session: u32)
-        requires { words.IsOfSites (length self.old.vector) site }
+        requires { words.is_of_sites (length self.old.vector) site ≡ true }
         ensures { Turns self.old self.new (entries.Up site session) }
     {
         self.vector = after_up(self.vector, site, session);
@@ -127,16 +127,43 @@ impl FailLocks {
 
     /// A copy is unlocked.
     fn clear(&mut self, site: Site, item: Item, version: u32)
-        requires { words.IsOfSites (length self.old.vector) site }
+        requires { words.is_of_sites (length self.old.vector) site ≡ true }
         ensures { Turns self.old self.new (entries.Clear site item version) }
     {
         let _ = version;
         self.locks.clear(item, site);
     }
 
+    /// Whether the site is one of the vector's.
+    fn has_site(&self, site: Site) -> bool
+        ensures { result ≡ words.is_of_sites (length self.now.vector) site }
+    {
+        1 <= site.0 && site.0 <= self.vector.count
+    }
+
+    /// Whether the entry may be noted: the site that goes down or comes up, acknowledges, or has its copy unlocked, is one of the
+    /// sites.
+    pub fn may_note(&self, entry: &Entry) -> bool
+        ensures { result ≡ words.names_sites (length self.now.vector) entry.now }
+    {
+        match entry {
+            Entry::Ack { site, .. } => self.has_site(*site),
+            Entry::Down { site } => self.has_site(*site),
+            Entry::Up { site, .. } => self.has_site(*site),
+            Entry::Clear { site, .. } => self.has_site(*site),
+            Entry::Begin { .. }
+            | Entry::Read { .. }
+            | Entry::Wait { .. }
+            | Entry::Commit { .. }
+            | Entry::Abort { .. }
+            | Entry::SwitchOn { .. }
+            | Entry::SwitchEnd { .. } => true,
+        }
+    }
+
     /// Does what an entry says. After want of memory the same is said as before.
     fn turn(&mut self, entry: &Entry) -> Result<(), NoMemory>
-        requires { words.NamesSites (length self.old.vector) entry.now }
+        requires { words.names_sites (length self.old.vector) entry.now ≡ true }
         ensures ok { OnOk result (Turns self.old self.new entry.now) }
         ensures err { OnErr result (Alike self.old self.new) }
     {
@@ -166,10 +193,10 @@ impl FailLocks {
         Ok(())
     }
 
-    /// Notes the entry that comes next. The sites that it says something of are those of the vector. After want of memory the
+    /// Notes the entry that comes next, where [`may_note`](FailLocks::may_note) allows it. After want of memory the
     /// fail-locks stand for the lists that they stood for.
     pub fn note(&mut self, entry: &Entry) -> Result<(), NoMemory>
-        requires { words.NamesSites (length self.old.vector) entry.now }
+        requires { words.names_sites (length self.old.vector) entry.now ≡ true }
         ensures ok { OnOk result ((sites : ℕ) (placement : List (List Site)) (p : List Noted) (n : Noted) → n.entry ≡ entry.now → Stands self.old sites placement p → Stands self.new sites placement (p ++ n ∷ [])) }
         ensures err { OnErr result ((sites : ℕ) (placement : List (List Site)) (p : List Noted) → Stands self.old sites placement p → Stands self.new sites placement p) }
     {

@@ -7,3 +7,6 @@ pub mod faillocks;
 mod locks;
 
 pub use faillocks::FailLocks;
+
+#[cfg(test)]
+mod tests;
