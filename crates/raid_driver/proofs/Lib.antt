@@ -1,3 +1,4 @@
 pub mod Follow
 pub mod Kept
 pub mod Places
+pub mod Shown
