@@ -1,9 +1,8 @@
 -- What a site's steps do to its programs is what the driver does to them, and, where a program is done, what prepares its transaction.
-use Rattle.std.proofs.Common.{◌≡◌, ℕ, ℤ, zero, suc, ◌+◌, ◌<◌, ◌==◌, nat_lt, Bool, true, false, not, ◌||◌, if◌then◌else◌, List, [], ◌∷◌, ◌++◌, map, filter, length, fold, Option, Some, None, arith, ap, sym, subst, ◌∙◌, refl}
+use Rattle.std.proofs.Common.{◌≡◌, ℕ, ℤ, suc, ◌<◌, ◌==◌, nat_lt, Bool, true, false, not, ◌||◌, if◌then◌else◌, List, [], ◌∷◌, map, filter, length, Option, Some, None, arith, ap, sym, ◌∙◌, refl}
 use Rattle.std.specs.Prelude.{find, option_map}
-use Rattle.std.specs.List.{list_any, All, AllPairs}
+use Rattle.std.specs.List.{list_any, All}
 use Rattle.std.specs.Option.{option_map_or}
-use Rattle.std.proofs.lemmas.Grind.{common_steps}
 use Rattle.std.proofs.lemmas.List.Elements.{All-head, All-tail}
 use Rattle.raid_base.specs.declared.names.Txn.{Txn}
 use Rattle.raid_base.specs.declared.names.Item.{Item}
@@ -15,7 +14,7 @@ use Rattle.raid_program.specs.Run.{Outcome, outcome_of, given, put}
 use Rattle.raid_workload.specs.declared.workload.Workload.{Workload}
 use Rattle.raid_workload.specs.Parts.{program}
 use Rattle.raid_message.specs.declared.letter.Message.TheVariants as letters
-use Rattle.raid_steps.specs.State.{Out, Turn, with_state, sending, tell, Phase, Running, SiteState}
+use Rattle.raid_steps.specs.State.{Turn, with_state, sending, tell, Running, SiteState}
 use Rattle.raid_steps.specs.Programs as steps
 use Rattle.raid_driver.specs.declared.task.Task.{Task}
 use Rattle.raid_driver.specs.declared.task.Doing.{Doing}

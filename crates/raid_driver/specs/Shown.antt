@@ -1,6 +1,6 @@
 -- The programs of a site as its state shows them. A program that is done is in preparation as long as votes for it are counted, and its
 -- CommitAsk was sent after that.
-use Rattle.std.specs.Prelude.{ℕ, List, map, Option, Some, None}
+use Rattle.std.specs.Prelude.{List, map, Option, Some, None}
 use Rattle.raid_base.specs.declared.names.Txn.{Txn}
 use Rattle.raid_base.specs.declared.names.Site.{Site}
 use Rattle.raid_steps.specs.State.{Phase, asking, preparing, sent, Running, SiteState}
