@@ -53,6 +53,9 @@ lost_done_at s r Over is (Some y) e = absurd (cc e)
 lost_done : (s : Site) (r : Task) → is_done (lost s r).doing ≡ is_done r.doing
 lost_done s r = lost_done_at s r r.doing refl (awaited s r.doing) refl
 
+pub lost_txn : (s : Site) (r : Task) → (lost s r).txn ≡ r.txn
+lost_txn s r = lost_cases r (awaited s r.doing)
+
 pub lost_txns : (s : Site) (rs : List Task) → txns_of (map (lost s) rs) ≡ txns_of rs
 lost_txns s [] = refl
 lost_txns s (r ∷ rs) = ap (λ t. t ∷ txns_of (map (lost s) rs)) (lost_cases r (awaited s r.doing)) ∙ ap (λ ts. r.txn ∷ ts) (lost_txns s rs)
