@@ -49,10 +49,10 @@ none_of : (next : Option (Kind × ℕ)) → is_some next ≡ false → next ≡ 
 none_of None e = refl
 none_of (Some c) e = absurd (true≢false e)
 
-the_fact : (w : Workload) (h : List Entry) (e : Entry) → Legal w (h ++ e ∷ []) → Fact w (noted h) e
+pub the_fact : (w : Workload) (h : List Entry) (e : Entry) → Legal w (h ++ e ∷ []) → Fact w (noted h) e
 the_fact w h e l = fact w (noted h) e ((legal_push w h e).0 l).1
 
-before : (w : Workload) (h : List Entry) (e : Entry) → Legal w (h ++ e ∷ []) → Legal w h
+pub before : (w : Workload) (h : List Entry) (e : Entry) → Legal w (h ++ e ∷ []) → Legal w h
 before w h e l = ((legal_push w h e).0 l).0
 
 -- a generic switch
@@ -97,7 +97,7 @@ calm_turn w p f k (SwitchOn j to method) c = absurd (true≢false (sym c))
 calm_turn w p f k (SwitchEnd j) c = absurd (true≢false (sym c))
 calm_turn w p f k other c = refl
 
-grow : (v : View) (p : List Noted) (e : Entry) → v.cut ≤ length p → view_of v (add p e) ≡ view_of v p ++ next p e ∷ []
+pub grow : (v : View) (p : List Noted) (e : Entry) → v.cut ≤ length p → view_of v (add p e) ≡ view_of v p ++ next p e ∷ []
 grow v p e l =
     view_push v p (next p e)
     ∙ ap (λ b. view_of v p ++ (if (b || is_begin (has_txn v.keep) e || is_read (λ t x s. has_txn v.keep t) e) then next p e ∷ [] else [])) (lt_true v.cut (length p + 1) (omega (arith, l)))

@@ -31,7 +31,7 @@ pub type Control = Box<dyn Controller>;
 pub struct Eras {
     first: Control,
     second: Option<Control>,
-    // The number of the SwitchOn with which the second came.
+    // The number of the SwitchOn with which the second came; without a second it says nothing.
     since: u32,
     finished: bool,
 }

@@ -1,6 +1,6 @@
 //! What switches do to the views of the controllers in force.
 
-ghost use Rattle.std.specs.Prelude.{◌≡◌, ℕ, ℤ, true, List, [], ◌∷◌, ◌++◌, All, Some, None, map};
+ghost use Rattle.std.specs.Prelude.{◌≡◌, ℕ, ℤ, true, List, [], ◌∷◌, ◌++◌, All, Some};
 ghost use Rattle.raid_base.specs.declared.names.Txn.{Txn};
 ghost use Rattle.raid_base.specs.declared.names.Item.{Item};
 ghost use Rattle.raid_base.specs.declared.entry.Entry.{Entry};
@@ -10,8 +10,8 @@ ghost use Rattle.raid_base.specs.declared.verdict.Kind.{Kind};
 ghost use Rattle.raid_base.specs.declared.verdict.Method.{Method};
 ghost use Rattle.raid_base.specs.declared.verdict.Method.TheVariants.{Generic, Convert, Suffix};
 ghost use Rattle.raid_workload.specs.declared.workload.Workload.{Workload};
-ghost use Rattle.raid_rules.specs.History.{noted, add, next, is_running};
-ghost use Rattle.raid_rules.specs.Order.{is_seen};
+ghost use Rattle.raid_rules.specs.History.{noted, next, is_running};
+ghost use Rattle.raid_rules.specs.Order.{is_seen, MayNote};
 ghost use Rattle.raid_rules.specs.Verdicts.{Question};
 ghost use Rattle.raid_rules.specs.Views.{view_of, abort_list};
 ghost use Rattle.raid_legal.specs.Seen.{running};
@@ -25,6 +25,11 @@ ghost use Rattle.raid_switch.specs.Force.{verdict_by, blocks_by, grown, without,
 pub fn controllers_say_the_verdict()
     ensures verdict { (w : Workload) (p : List Noted) (q : Question) → verdict_by (controllers (in_force w p) p) q ≡ verdict w p q }
     ensures blocks { (w : Workload) (p : List Noted) (u t : Txn) (writes : List (Item × ℤ)) → blocks_by (controllers (in_force w p) p) u t writes ≡ blocks w p u t writes }
+{}
+
+/// An entry with which a legal history goes on may be noted after the view of each controller in force.
+pub fn legal_entries_may_be_noted()
+    ensures { (w : Workload) (h : List Entry) (e : Entry) → Legal w (h ++ e ∷ []) → All (λ c. MayNote c.0 c.1 (next (noted h) e)) (controllers (in_force w (noted h)) (noted h)) }
 {}
 
 /// An entry that turns no controller comes last in the view of each.
