@@ -92,6 +92,7 @@ impl Driver {
         ensures ok { OnOk result (turn self.new outs.new ≡ begin workload.now (turn self.old outs.old) txn) }
         ensures live { OnOk result (self.old.finished ≡ false) }
         ensures err { OnErr result (self.new.finished ≡ true) }
+        ensures quiet { self.old.finished ≡ true → outs.new ≡ outs.old }
     {
         if self.finished {
             return Err(NoMemory);
@@ -105,7 +106,7 @@ impl Driver {
         Ok(())
     }
 
-    /// Begins the next transaction, if one is left, and answers which that was. It begins whatever runs already.
+    /// Begins the next transaction, if one is left, and answers which that was, however many run already.
     pub fn begin_next(
         &mut self,
         alloc: Global,
@@ -116,6 +117,7 @@ impl Driver {
         ensures which { IfOk result (λ t. t ≡ next_txn self.old) }
         ensures live { OnOk result (self.old.finished ≡ false) }
         ensures err { OnErr result (self.new.finished ≡ true) }
+        ensures quiet { self.old.finished ≡ true → outs.new ≡ outs.old }
     {
         if self.finished {
             return Err(NoMemory);
@@ -139,6 +141,7 @@ impl Driver {
         ensures ok { OnOk result (turn self.new outs.new ≡ start workload.now (turn self.old outs.old)) }
         ensures live { OnOk result (self.old.finished ≡ false) }
         ensures err { OnErr result (self.new.finished ≡ true) }
+        ensures quiet { self.old.finished ≡ true → outs.new ≡ outs.old }
     {
         if self.finished {
             return Err(NoMemory);
@@ -151,7 +154,7 @@ impl Driver {
     }
 
     /// Takes a value for an ask: the transaction's program goes on where that is its outstanding ask, and else
-    /// nothing changes.
+    /// nothing changes. To be called where each program may ask once more.
     pub fn value(
         &mut self,
         workload: &Workload,
@@ -164,6 +167,7 @@ impl Driver {
         ensures ok { OnOk result (turn self.new outs.new ≡ give workload.now (turn self.old outs.old) txn ask value) }
         ensures live { OnOk result (self.old.finished ≡ false) }
         ensures err { OnErr result (self.new.finished ≡ true) }
+        ensures quiet { self.old.finished ≡ true → outs.new ≡ outs.old }
     {
         if self.finished {
             return Err(NoMemory);
@@ -195,12 +199,13 @@ impl Driver {
     }
 
     /// Lets each program ask again whose read the site was to serve, under its next number, least transaction
-    /// first.
+    /// first. To be called where each program may ask once more.
     pub fn down(&mut self, site: Site, outs: &mut Outs) -> Result<(), NoMemory>
         requires { IsTrue (may_ask self.old.running) }
         ensures ok { OnOk result (turn self.new outs.new ≡ lose site (turn self.old outs.old)) }
         ensures live { OnOk result (self.old.finished ≡ false) }
         ensures err { OnErr result (self.new.finished ≡ true) }
+        ensures quiet { self.old.finished ≡ true → outs.new ≡ outs.old }
     {
         if self.finished {
             return Err(NoMemory);
@@ -243,6 +248,7 @@ impl Driver {
         ensures ok { OnOk result (turn self.new outs.new ≡ again workload.now (turn self.old outs.old) txn) }
         ensures live { OnOk result (self.old.finished ≡ false) }
         ensures err { OnErr result (self.new.finished ≡ true) }
+        ensures quiet { self.old.finished ≡ true → outs.new ≡ outs.old }
     {
         self.ended(txn);
         let next = Txn(txn.0 + workload.programs.len() as u32);
