@@ -7,5 +7,13 @@
 #![tactic(auto)]
 
 mod history;
+mod views;
 
-pub use history::{legal_are_placed, placed_push};
+pub use history::{
+    legal_are_placed, placeable_may_follow, placed_are_in_order, placed_are_of_the_workload,
+    placed_push,
+};
+pub use views::{
+    asks_fit_placed_views, controllers_may_note, placed_views_are_in_order,
+    switch_ends_leave_the_new_one, views_grow,
+};
