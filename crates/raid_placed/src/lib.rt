@@ -15,5 +15,5 @@ pub use history::{
 };
 pub use views::{
     asks_fit_placed_views, controllers_may_note, placed_views_are_in_order,
-    switch_ends_leave_the_new_one, views_grow,
+    switch_ends_leave_the_new_one, switches_turn_the_old_one, views_grow,
 };

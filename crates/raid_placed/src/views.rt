@@ -5,17 +5,19 @@ ghost use Rattle.raid_base.specs.declared.names.Txn.{Txn};
 ghost use Rattle.raid_base.specs.declared.names.Item.{Item};
 ghost use Rattle.raid_base.specs.declared.entry.Entry.{Entry};
 ghost use Rattle.raid_base.specs.declared.entry.Noted.{Noted};
-ghost use Rattle.raid_base.specs.declared.entry.Entry.TheVariants.{SwitchEnd};
+ghost use Rattle.raid_base.specs.declared.entry.Entry.TheVariants.{SwitchOn, SwitchEnd};
+ghost use Rattle.raid_base.specs.declared.verdict.Kind.{Kind};
+ghost use Rattle.raid_base.specs.declared.verdict.Method.{Method};
 ghost use Rattle.raid_workload.specs.declared.workload.Workload.{Workload};
 ghost use Rattle.raid_rules.specs.History.{noted, add, next, stamp, is_running};
 ghost use Rattle.raid_rules.specs.Order.{IsInOrder, Fits, MayNote};
 ghost use Rattle.raid_rules.specs.Verdicts.{reading, writing};
-ghost use Rattle.raid_legal.specs.InForce.{in_force, is_joint, newer, controllers};
+ghost use Rattle.raid_legal.specs.InForce.{in_force, is_joint, newer, controllers, off_list};
 ghost use Rattle.raid_legal.specs.Forced.{forced};
 ghost use Rattle.raid_conflict.specs.Listed.{Extends};
 ghost use Rattle.raid_switch.specs.Force.{grown};
 ghost use Rattle.raid_placed.specs.Placed.{Placed, Placeable};
-ghost use Rattle.raid_placed.specs.Turned.{is_switch};
+ghost use Rattle.raid_placed.specs.Turned.{is_switch, older, turned};
 
 /// The views of the controllers in force are in order.
 pub fn placed_views_are_in_order()
@@ -45,4 +47,10 @@ pub fn views_grow()
 pub fn switch_ends_leave_the_new_one()
     ensures joint { (w : Workload) (h : List Entry) (k : ℕ) → Placed w h → forced w (noted h) ≡ Some (SwitchEnd k) → is_joint (in_force w (noted h)) ≡ true }
     ensures after { (w : Workload) (h : List Entry) (k : ℕ) → Placed w h → forced w (noted h) ≡ Some (SwitchEnd k) → controllers (in_force w (add (noted h) (SwitchEnd k))) (add (noted h) (SwitchEnd k)) ≡ grown (next (noted h) (SwitchEnd k)) (newer (noted h) (in_force w (noted h)).next) }
+{}
+
+/// A forced SwitchOn finds one controller in force, and makes of it what the method says.
+pub fn switches_turn_the_old_one()
+    ensures alone { (w : Workload) (h : List Entry) (k : ℕ) (to : Kind) (method : Method) → Placed w h → forced w (noted h) ≡ Some (SwitchOn k to method) → controllers (in_force w (noted h)) (noted h) ≡ older (in_force w (noted h)) (noted h) ∷ [] }
+    ensures after { (w : Workload) (h : List Entry) (k : ℕ) (to : Kind) (method : Method) → Placed w h → forced w (noted h) ≡ Some (SwitchOn k to method) → controllers (in_force w (add (noted h) (SwitchOn k to method))) (add (noted h) (SwitchOn k to method)) ≡ turned method to (off_list w (noted h) method to) (next (noted h) (SwitchOn k to method)) (older (in_force w (noted h)) (noted h)) }
 {}
