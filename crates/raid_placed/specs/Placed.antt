@@ -1,6 +1,6 @@
 -- What the sequencer places, whatever letters it hears. A legal history is placed; a placed one needn't be legal, since the sequencer can't
 -- see what the programs want, which stops and returns are due, or which sessions there were: it takes the letters' word for that.
-use Rattle.std.specs.Prelude.{◌≡◌, true, false, List, [], Option, Some, None, ⊤}
+use Rattle.std.specs.Prelude.{◌≡◌, ℕ, ◌+◌, ◌*◌, ◌-◌, true, false, List, [], length, Option, Some, None, ⊤, if◌then◌else◌}
 use Rattle.raid_base.specs.declared.names.Txn.{Txn}
 use Rattle.raid_base.specs.declared.names.Item.{Item}
 use Rattle.raid_base.specs.declared.request.Request.{Request}
@@ -15,7 +15,8 @@ use Rattle.raid_workload.specs.declared.workload.Workload.{Workload}
 use Rattle.raid_workload.specs.Parts.{home, txns}
 use Rattle.raid_rules.specs.History.{noted, has_begun, version}
 use Rattle.raid_rules.specs.Sessions.{owes}
-use Rattle.raid_legal.specs.Seen.{is_up, is_locked}
+use Rattle.raid_legal.specs.Seen.{running, is_up, is_locked}
+use Rattle.raid_legal.specs.InForce.{InForce, in_force, is_joint}
 use Rattle.raid_legal.specs.Answers.{answer_read, answer_commit}
 use Rattle.raid_legal.specs.Forced.{forced}
 use Rattle.raid_legal.specs.Legal.{EachSeeing, is_free, may_begin}
@@ -66,3 +67,8 @@ Placed w h = EachSeeing (λ p n. Placeable w p n.entry) [] (noted h)
 -- each transaction with a Begin is of the workload
 abbrev pub AreKnown : Workload → List Noted → Type 0
 AreKnown w p = (t : Txn) → has_begun p t ≡ true → has_txn (txns w) t ≡ true
+
+-- how many entries can still be forced one after the other, at most: an end for each that runs, two entries for each switch to come, one for
+-- the switch that is on
+abbrev pub to_force : Workload → List Noted → ℕ
+to_force w p = length (running w p) + (2 * (length w.switches - (in_force w p).switches) + (if is_joint (in_force w p) then 1 else 0))

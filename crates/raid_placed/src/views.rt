@@ -2,6 +2,7 @@
 
 ghost use Rattle.std.specs.Prelude.{◌≡◌, ℕ, ℤ, true, false, List, [], ◌∷◌, ◌++◌, All, Some};
 ghost use Rattle.raid_base.specs.declared.names.Txn.{Txn};
+ghost use Rattle.raid_base.specs.Names.{has_txn};
 ghost use Rattle.raid_base.specs.declared.names.Item.{Item};
 ghost use Rattle.raid_base.specs.declared.entry.Entry.{Entry};
 ghost use Rattle.raid_base.specs.declared.entry.Noted.{Noted};
@@ -12,6 +13,8 @@ ghost use Rattle.raid_workload.specs.declared.workload.Workload.{Workload};
 ghost use Rattle.raid_rules.specs.History.{noted, add, next, stamp, is_running};
 ghost use Rattle.raid_rules.specs.Order.{IsInOrder, Fits, MayNote};
 ghost use Rattle.raid_rules.specs.Verdicts.{reading, writing};
+ghost use Rattle.raid_rules.specs.Views.{view_of, is_backward, abort_list};
+ghost use Rattle.raid_legal.specs.Seen.{running};
 ghost use Rattle.raid_legal.specs.InForce.{in_force, is_joint, newer, controllers, off_list};
 ghost use Rattle.raid_legal.specs.Forced.{forced};
 ghost use Rattle.raid_conflict.specs.Listed.{Extends};
@@ -53,4 +56,16 @@ pub fn switch_ends_leave_the_new_one()
 pub fn switches_turn_the_old_one()
     ensures alone { (w : Workload) (h : List Entry) (k : ℕ) (to : Kind) (method : Method) → Placed w h → forced w (noted h) ≡ Some (SwitchOn k to method) → controllers (in_force w (noted h)) (noted h) ≡ older (in_force w (noted h)) (noted h) ∷ [] }
     ensures after { (w : Workload) (h : List Entry) (k : ℕ) (to : Kind) (method : Method) → Placed w h → forced w (noted h) ≡ Some (SwitchOn k to method) → controllers (in_force w (add (noted h) (SwitchOn k to method))) (add (noted h) (SwitchOn k to method)) ≡ turned method to (off_list w (noted h) method to) (next (noted h) (SwitchOn k to method)) (older (in_force w (noted h)) (noted h)) }
+{}
+
+/// A running transaction that the last switch doesn't abort is backward over the view in force (the old one's, where there are two) exactly
+/// where it is backward over the history.
+pub fn placed_views_show_who_is_backward()
+    ensures { (w : Workload) (h : List Entry) → Placed w h → (t : Txn) → is_running (noted h) t ≡ true → has_txn (in_force w (noted h)).off t ≡ false → is_backward (view_of (in_force w (noted h)).view (noted h)) t ≡ is_backward (noted h) t }
+{}
+
+/// So where a SwitchOn is forced, the old controller's view tells whom it aborts, before it has noted the entry and after.
+pub fn old_views_show_whom_a_switch_aborts()
+    ensures before { (w : Workload) (h : List Entry) (k : ℕ) (to : Kind) (method : Method) → Placed w h → forced w (noted h) ≡ Some (SwitchOn k to method) → abort_list method to (older (in_force w (noted h)) (noted h)).1 (running w (noted h)) ≡ off_list w (noted h) method to }
+    ensures after { (w : Workload) (h : List Entry) (k : ℕ) (to : Kind) (method : Method) → Placed w h → forced w (noted h) ≡ Some (SwitchOn k to method) → abort_list method to ((older (in_force w (noted h)) (noted h)).1 ++ next (noted h) (SwitchOn k to method) ∷ []) (running w (noted h)) ≡ off_list w (noted h) method to }
 {}
