@@ -21,14 +21,14 @@ pub in_force_push : (w : Workload) (p : List RNoted) (e : Real) → in_force w (
 in_force_push w p e = fold_seeing_push (λ before f n. turn w before f n.at n.entry) (opening w) p (next p e)
 
 -- while two controllers are in force nobody is to be aborted for a switch
-abbrev Spares : InForce → Type 0
+abbrev pub Spares : InForce → Type 0
 Spares f = is_some f.next ≡ true → f.off ≡ []
 
 ended_spares : (f : InForce) (next : Option (RKind × ℕ)) → f.next ≡ next → Spares f → Spares (turn_end f next)
 ended_spares f None e s = s
 ended_spares f (Some c) e s = λ q. absurd (true≢false (sym q))
 
-turn_spares : (w : Workload) (p : List RNoted) (e : Real) (k : ℕ) → Fact w p e → Spares (in_force w p) → Spares (turn w p (in_force w p) k e)
+pub turn_spares : (w : Workload) (p : List RNoted) (e : Real) (k : ℕ) → Fact w p e → Spares (in_force w p) → Spares (turn w p (in_force w p) k e)
 turn_spares w p (SwitchOn j kind Generic) k f s = λ q. absurd (true≢false (sym q ∙ f.1))
 turn_spares w p (SwitchOn j kind Convert) k f s = λ q. absurd (true≢false (sym q ∙ f.1))
 turn_spares w p (SwitchOn j kind Suffix) k f s = λ q. refl

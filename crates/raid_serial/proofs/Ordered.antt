@@ -99,7 +99,7 @@ module _ (w : Workload) (p : List RNoted) (o : Ordered p) where
     ];
   }
 
-  ordered_add : (e : Real) → Fact w p e → Ordered (add p e)
+  pub ordered_add : (e : Real) → Fact w p e → Ordered (add p e)
   ordered_add e f = record {
     in_order = in_order_push p (next p e) o.in_order o.whole (follows e f);
     whole = whole_push p (next p e) o.whole (follows e f);
@@ -133,7 +133,7 @@ module _ (w : Workload) (p : List RNoted) (o : Ordered p) where
         ]
       ])
 
-ordered_none : Ordered []
+pub ordered_none : Ordered []
 ordered_none = record {
   in_order = record { counted = λ k d l. absurd (omega (arith, l)); ascends = λ i j d ij jl. absurd (omega (arith, jl)); agrees = λ t i j d ij jl. absurd (omega (arith, jl)); begins = λ t k d l. absurd (omega (arith, l)); older = λ t n k d l. absurd (omega (arith, l)) };
   whole = λ t q. absurd (true≢false (sym q));

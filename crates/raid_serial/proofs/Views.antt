@@ -158,7 +158,7 @@ module _ (v : View) (p : List RNoted) (o : Ordered p) where
   commit_fits_view t writes run = record { goes_on = goes_on t run; in_order = λ at above more. action_in_order t run (as_noted at (writing t (stamp p t) writes)) (λ u. refl) (λ u. refl) refl above more }
 
 -- what holds of each view holds of those in force
-each_controller : (P : List RNoted → Type 0) (w : Workload) (p : List RNoted) → ((v : View) → P (view_of v p)) → All (λ c. P c.1) (controllers (in_force w p) p)
+pub each_controller : (P : List RNoted → Type 0) (w : Workload) (p : List RNoted) → ((v : View) → P (view_of v p)) → All (λ c. P c.1) (controllers (in_force w p) p)
 each_controller P w p every = go (in_force w p).next
   where
     Fine : RKind × List RNoted → Type 0

@@ -1,0 +1,8 @@
+use Rattle.raid_placed.proofs.Growth.{placed_same, placed_grow}
+use Rattle.raid_placed.proofs.views.views_grow.Goals as goal
+
+pub returns-clause-same : goal.returns-clause-same
+returns-clause-same c = placed_same
+
+pub returns-clause-grow : goal.returns-clause-grow
+returns-clause-grow c = placed_grow
