@@ -37,7 +37,7 @@ use Rattle.raid_serial.proofs.Views.{same_tests}
 use Rattle.raid_placed.specs.Placed.{Placeable, Placed, AreKnown}
 use Rattle.raid_placed.specs.Turned.{is_switch, older, turned}
 use Rattle.raid_placed.proofs.Sent.{placed_fact, by_facts, forced_placeable}
-use Rattle.raid_placed.proofs.Orderly.{placed_ordered, placed_known, known_running, txn_kept}
+use Rattle.raid_placed.proofs.Orderly.{placed_ordered, placed_known, known_running, txn_kept, txn_among}
 use Rattle.raid_placed.proofs.Growth.{Bounds, placed_bounds, grow_view, is_in_next, alone_next, alone_controllers}
 
 -- the entry is a Begin or a Read of the transaction
@@ -201,24 +201,8 @@ module _ (w : Workload) (p : List Noted) (o : Ordered p) (known : AreKnown w p) 
   survived_not : (to : Kind) (t : Txn) → has_txn (survivors w p Convert to) t ≡ true → has_txn (off_list w p Convert to) t ≡ false
   survived_not to t k = not_off (has_txn (off_list w p Convert to) t) (txn_kept (λ u. not (has_txn (off_list w p Convert to) u)) (running w p) t k)
 
-  among : (f : Txn → Bool) (ts : List Txn) (t : Txn) → has_txn (filter f ts) t ≡ true → has_txn ts t ≡ true
-  among f [] t k = k
-  among f (x ∷ xs) t k = step (f x) (among f xs t) k
-    where
-      there : (b : Bool) (c d : Bool) → (c ≡ true → d ≡ true) → (b || c) ≡ true → (b || d) ≡ true
-      there true c d r q = refl
-      there false c d r q = r q
-
-      beside : (b d : Bool) → d ≡ true → (b || d) ≡ true
-      beside true d q = refl
-      beside false d q = q
-
-      step : (c : Bool) → (has_txn (filter f xs) t ≡ true → has_txn xs t ≡ true) → has_txn (cond c (x ∷ filter f xs) (filter f xs)) t ≡ true → has_txn (x ∷ xs) t ≡ true
-      step true rest k = there (is_txn t x) (has_txn (filter f xs) t) (has_txn xs t) rest k
-      step false rest k = beside (is_txn t x) (has_txn xs t) (rest k)
-
   survived_runs : (to : Kind) (t : Txn) → has_txn (survivors w p Convert to) t ≡ true → is_running p t ≡ true
-  survived_runs to t k = sym (known_running w p known t) ∙ among (λ u. not (has_txn (off_list w p Convert to) u)) (running w p) t k
+  survived_runs to t k = sym (known_running w p known t) ∙ txn_among (λ u. not (has_txn (off_list w p Convert to) u)) (running w p) t k
 
   generic_step : (k : ℕ) (to : Kind) → Fact w p (SwitchOn k to Generic) → Held (turn_on w p force (length p + 1) to Generic) (add p (SwitchOn k to Generic))
   generic_step k to f = record {

@@ -60,6 +60,23 @@ txn_kept f (x ∷ xs) t h = kept_step (f x) refl h (txn_kept f xs t)
     kept_step true e h rest = here_step (is_txn t x) refl e rest h
     kept_step false e h rest = rest h
 
+-- and is in the list
+pub txn_among : (f : Txn → Bool) (ts : List Txn) (t : Txn) → has_txn (filter f ts) t ≡ true → has_txn ts t ≡ true
+txn_among f [] t k = k
+txn_among f (x ∷ xs) t k = step (f x) (txn_among f xs t) k
+  where
+    there : (b : Bool) (c d : Bool) → (c ≡ true → d ≡ true) → (b || c) ≡ true → (b || d) ≡ true
+    there true c d r q = refl
+    there false c d r q = r q
+
+    beside : (b d : Bool) → d ≡ true → (b || d) ≡ true
+    beside true d q = refl
+    beside false d q = q
+
+    step : (c : Bool) → (has_txn (filter f xs) t ≡ true → has_txn xs t ≡ true) → has_txn (cond c (x ∷ filter f xs) (filter f xs)) t ≡ true → has_txn (x ∷ xs) t ≡ true
+    step true rest k = there (is_txn t x) (has_txn (filter f xs) t) (has_txn xs t) rest k
+    step false rest k = beside (is_txn t x) (has_txn xs t) (rest k)
+
 pub known_running : (w : Workload) (p : List Noted) → AreKnown w p → (t : Txn) → has_txn (running w p) t ≡ is_running p t
 known_running w p known t =
     same_tests (has_txn (running w p) t) (is_running p t) (txn_kept (is_running p) (txns w) t)

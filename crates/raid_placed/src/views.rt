@@ -1,6 +1,6 @@
 //! The views of the controllers in force after a placed history, and how they grow.
 
-ghost use Rattle.std.specs.Prelude.{◌≡◌, ℕ, ℤ, true, false, List, [], ◌∷◌, ◌++◌, All, Some};
+ghost use Rattle.std.specs.Prelude.{◌≡◌, ℕ, ℤ, ◌+◌, true, false, List, [], ◌∷◌, ◌++◌, length, All, Some};
 ghost use Rattle.raid_base.specs.declared.names.Txn.{Txn};
 ghost use Rattle.raid_base.specs.Names.{has_txn};
 ghost use Rattle.raid_base.specs.declared.names.Item.{Item};
@@ -15,7 +15,7 @@ ghost use Rattle.raid_rules.specs.Order.{IsInOrder, Fits, MayNote};
 ghost use Rattle.raid_rules.specs.Verdicts.{reading, writing};
 ghost use Rattle.raid_rules.specs.Views.{view_of, is_backward, abort_list};
 ghost use Rattle.raid_legal.specs.Seen.{running};
-ghost use Rattle.raid_legal.specs.InForce.{in_force, is_joint, newer, controllers, off_list};
+ghost use Rattle.raid_legal.specs.InForce.{in_force, turn, is_joint, newer, controllers, off_list};
 ghost use Rattle.raid_legal.specs.Forced.{forced};
 ghost use Rattle.raid_conflict.specs.Listed.{Extends};
 ghost use Rattle.raid_switch.specs.Force.{grown};
@@ -40,8 +40,9 @@ pub fn controllers_may_note()
     ensures graph { (w : Workload) (h : List Entry) (e : Entry) → Placed w h → Placeable w (noted h) e → Extends (noted h) (next (noted h) e) }
 {}
 
-/// An entry that is no switch's leaves in force what is, with each view grown by it.
+/// Each entry turns what is in force; one that is no switch's leaves in force what is, with each view grown by it.
 pub fn views_grow()
+    ensures turn { (w : Workload) (p : List Noted) (e : Entry) → in_force w (add p e) ≡ turn w p (in_force w p) (length p + 1) e }
     ensures same { (w : Workload) (p : List Noted) (e : Entry) → is_switch e ≡ false → in_force w (add p e) ≡ in_force w p }
     ensures grow { (w : Workload) (h : List Entry) (e : Entry) → Placed w h → is_switch e ≡ false → controllers (in_force w (add (noted h) e)) (add (noted h) e) ≡ grown (next (noted h) e) (controllers (in_force w (noted h)) (noted h)) }
 {}
