@@ -1,16 +1,14 @@
 -- Whatever letter the sequencer hears, its history stays placed, and nothing is forced after it.
-use Rattle.std.proofs.Common.{◌≡◌, ℕ, ℤ, zero, suc, ◌+◌, ◌-◌, ◌<◌, ◌||◌, ◌&&◌, ◌==◌, nat_lt, nat_le, Bool, true, false, not, List, [], ◌∷◌, ◌++◌, length, if◌then◌else◌, Option, Some, None, arith, sym, ◌∙◌, ap, subst, refl}
+use Rattle.std.proofs.Common.{◌≡◌, ℕ, zero, suc, ◌+◌, ◌-◌, ◌||◌, ◌&&◌, ◌==◌, nat_lt, nat_le, Bool, true, false, List, [], ◌∷◌, if◌then◌else◌, Option, Some, None, arith, sym, ◌∙◌, ap, subst, refl}
 use Rattle.std.specs.Prelude.{slice_index, slice_set}
-use Rattle.std.specs.Option.{option_map_or}
-use Rattle.std.proofs.lemmas.Bool.{true≢false, and_parts, eqb-true}
+use Rattle.std.proofs.lemmas.Bool.{and_parts, eqb-true}
 use Rattle.std.proofs.lemmas.Grind.{common_steps}
 use Rattle.raid_base.specs.declared.names.Txn.{Txn}
 use Rattle.raid_base.specs.declared.names.Item.{Item}
 use Rattle.raid_base.specs.declared.names.Site.{Site}
 use Rattle.raid_base.specs.declared.request.Request.{Request}
 use Rattle.raid_base.specs.declared.entry.Entry.{Entry}
-use Rattle.raid_base.specs.declared.entry.Entry.TheVariants.{Begin, Read, Wait, Commit, Abort, Ack, SwitchOn, SwitchEnd, Down, Up, Clear}
-use Rattle.raid_base.specs.declared.entry.Act.{Act}
+use Rattle.raid_base.specs.declared.entry.Entry.TheVariants.{Begin, Wait, Commit, Abort, Ack, SwitchOn, SwitchEnd, Down, Up, Clear}
 use Rattle.raid_base.specs.declared.entry.Act.TheVariants as acts
 use Rattle.raid_base.specs.declared.entry.Cause.{Cause}
 use Rattle.raid_base.specs.declared.entry.Cause.TheVariants as causes
@@ -20,8 +18,8 @@ use Rattle.raid_base.specs.declared.verdict.Verdict.TheVariants as verdicts
 use Rattle.raid_base.specs.Sites.{session, site}
 use Rattle.raid_workload.specs.declared.workload.Workload.{Workload}
 use Rattle.raid_workload.specs.Parts.{home}
-use Rattle.raid_rules.specs.History.{noted, add, next, stamp, is_waiting, ends, version}
-use Rattle.raid_rules.specs.Sessions.{source_for, owes, turn_vector, with_session, is_site_up}
+use Rattle.raid_rules.specs.History.{noted, next, stamp, is_waiting, version}
+use Rattle.raid_rules.specs.Sessions.{source_for, owes, turn_vector, is_site_up}
 use Rattle.raid_rules.specs.Verdicts.{reading, writing}
 use Rattle.raid_rules.proofs.Push.{noted_push, vector_push}
 use Rattle.raid_legal.specs.Seen.{vector, is_up, is_locked, sources}
@@ -36,8 +34,8 @@ use Rattle.raid_message.specs.declared.letter.Letter.{Letter}
 use Rattle.raid_serial.proofs.Facts.{some_is, none_is, if_some}
 use Rattle.raid_steps.specs.State.{Turn, Sequencer, opened}
 use Rattle.raid_steps.specs.Fits.{is_to_sequencer, knows_site}
-use Rattle.raid_steps.specs.Sequencer.{so_far, place, place_if, settle, Settles, quiet, more, announced, announce, down_row, leave, leave_again, hello_row, free_row, copied_row, begin_row, read_row, commit_row, end_row, ack_row, site_row, finish, hear_down, is_hello, hear_of_site, hear_sequencer}
-use Rattle.raid_placed.specs.Placed.{Sent, Goes, Placeable, Placed}
+use Rattle.raid_steps.specs.Sequencer.{so_far, place, place_if, settle, Settles, quiet, more, announced, announce, down_row, leave, leave_again, hello_row, free_row, site_row, finish, hear_down, is_hello, hear_of_site, hear_sequencer}
+use Rattle.raid_placed.specs.Placed.{Sent, Goes, Placed}
 use Rattle.raid_placed.proofs.Settled.{place_placed, settle_placed, settle_settles, settle_quiet}
 
 -- the history is placed, and nothing is forced after it

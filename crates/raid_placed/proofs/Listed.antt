@@ -1,19 +1,17 @@
 -- A list of the running transactions in ascending order is the list of the rules.
-use Rattle.std.proofs.Common.{◌≡◌, ℕ, zero, suc, ◌+◌, ◌<◌, ◌≤◌, ◌⊎◌, inl, inr, ◌||◌, ◌==◌, Bool, true, false, cond, List, [], ◌∷◌, length, map, arith, sym, ◌∙◌, ap, subst, refl, ◌*◌}
+use Rattle.std.proofs.Common.{◌≡◌, ℕ, zero, suc, ◌+◌, ◌<◌, ◌≤◌, inl, inr, ◌||◌, ◌==◌, Bool, true, false, cond, List, [], ◌∷◌, length, map, arith, sym, ◌∙◌, ap, subst, refl, ◌*◌}
 use Rattle.std.specs.Bool.{⊤}
 use Rattle.std.specs.List.{AllPairs, filter}
 use Rattle.std.proofs.lemmas.Bool.{true≢false, or_left, eqb-true}
-use Rattle.std.proofs.lemmas.Grind.{common_steps}
 use Rattle.raid_base.specs.declared.names.Txn.{Txn}
 use Rattle.raid_base.specs.declared.entry.Entry.{Entry}
-use Rattle.raid_base.specs.declared.entry.Noted.{Noted}
 use Rattle.raid_base.specs.Names.{is_txn, has_txn}
 use Rattle.raid_workload.specs.declared.workload.Workload.{Workload}
 use Rattle.raid_workload.specs.Parts.{txns, count_from}
 use Rattle.raid_rules.specs.History.{noted, is_running}
 use Rattle.raid_rules.proofs.Push.{same_txn}
 use Rattle.raid_legal.specs.Seen.{running}
-use Rattle.raid_serial.proofs.Translate.{txn, cases_true, eq_self}
+use Rattle.raid_serial.proofs.Translate.{cases_true, eq_self}
 use Rattle.raid_serial.proofs.Views.{same_tests}
 use Rattle.raid_placed.specs.Placed.{Placed}
 use Rattle.raid_placed.proofs.Orderly.{placed_running, txn_among}

@@ -1,19 +1,17 @@
 -- Whom the entries of a placed history name, who commits, and that committed transactions have no cycle.
-use Rattle.std.proofs.Common.{◌≡◌, ℕ, ◌+◌, inl, inr, ◌||◌, ◌&&◌, Bool, true, false, not, List, [], ◌∷◌, ◌++◌, map, length, arith, sym, ◌∙◌, ap, subst, refl, append-nil, Option, Some, None}
+use Rattle.std.proofs.Common.{◌≡◌, ◌+◌, true, List, [], ◌∷◌, ◌++◌, map, length, sym, ◌∙◌, ap, subst, refl, append-nil, Option, Some, None}
 use Rattle.std.specs.Prelude.{option_to_list}
-use Rattle.std.specs.List.{cons_option, list_any}
-use Rattle.std.proofs.lemmas.Bool.{true≢false, and_parts}
-use Rattle.std.proofs.lemmas.Grind.{common_steps}
+use Rattle.std.specs.List.{cons_option}
 use Rattle.raid_base.specs.declared.names.Txn.{Txn}
 use Rattle.raid_base.specs.declared.request.Request.{Request}
 use Rattle.raid_base.specs.declared.entry.Entry.{Entry}
-use Rattle.raid_base.specs.declared.entry.Entry.TheVariants.{Begin, Read, Wait, Commit, Abort, Ack, SwitchOn, SwitchEnd, Down, Up, Clear}
+use Rattle.raid_base.specs.declared.entry.Entry.TheVariants.{Begin, Read, Wait, Commit, Abort, Ack}
 use Rattle.raid_base.specs.declared.entry.Noted.{Noted}
-use Rattle.raid_base.specs.Names.{is_txn, has_txn}
+use Rattle.raid_base.specs.Names.{has_txn}
 use Rattle.raid_workload.specs.declared.workload.Workload.{Workload}
 use Rattle.raid_workload.specs.Parts.{txns}
 use Rattle.raid_rules.specs.Entries.{named}
-use Rattle.raid_rules.specs.History.{noted, add, next, stamp, has_committed, has_ended, has_begun, is_running}
+use Rattle.raid_rules.specs.History.{noted, add, next, stamp}
 use Rattle.raid_rules.specs.Conflict.{Path, commits, committed, commit_of}
 use Rattle.raid_rules.specs.Committed.{AllOnce, CommittedEdge}
 use Rattle.raid_rules.proofs.Txns.{not_true, once_push}

@@ -1,8 +1,8 @@
 -- A placed history is in order, its transactions are the workload's, and what follows may follow.
-use Rattle.std.proofs.Common.{◌≡◌, ℤ, arith, inl, inr, ◌||◌, Bool, true, false, not, ◌&&◌, List, [], ◌∷◌, ◌++◌, sym, ◌∙◌, ap, subst, refl}
+use Rattle.std.proofs.Common.{◌≡◌, ℤ, arith, inl, inr, ◌||◌, Bool, true, false, not, List, [], ◌∷◌, sym, ap, subst, refl}
 use Rattle.std.specs.List.{All, filter}
 use Rattle.std.specs.Prelude.{cond}
-use Rattle.std.proofs.lemmas.Bool.{true≢false, and_parts}
+use Rattle.std.proofs.lemmas.Bool.{true≢false}
 use Rattle.std.proofs.lemmas.Grind.{common_steps}
 use Rattle.raid_base.specs.declared.names.Txn.{Txn}
 use Rattle.raid_base.specs.declared.names.Item.{Item}
@@ -12,7 +12,6 @@ use Rattle.raid_base.specs.declared.entry.Noted.{Noted}
 use Rattle.raid_base.specs.Names.{is_txn, has_txn}
 use Rattle.raid_workload.specs.declared.workload.Workload.{Workload}
 use Rattle.raid_workload.specs.Parts.{txns}
-use Rattle.raid_rules.specs.Entries.{is_begin_of}
 use Rattle.raid_rules.specs.History.{noted, add, next, stamp, has_begun, is_running}
 use Rattle.raid_rules.specs.Order.{IsInOrder, IsWhole, Fits}
 use Rattle.raid_rules.specs.Verdicts.{reading, writing}

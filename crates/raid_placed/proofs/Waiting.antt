@@ -12,7 +12,7 @@ use Rattle.raid_base.specs.declared.entry.Noted.{Noted}
 use Rattle.raid_base.specs.Names.{is_txn}
 use Rattle.raid_workload.specs.declared.workload.Workload.{Workload}
 use Rattle.raid_rules.specs.Entries.{is_begin_of, is_end_of, wait_of}
-use Rattle.raid_rules.specs.History.{noted, add, next, has_begun, has_ended, is_running, is_waiting, waiting}
+use Rattle.raid_rules.specs.History.{noted, add, next, has_begun, is_running, is_waiting, waiting}
 use Rattle.raid_rules.specs.Order.{is_of}
 use Rattle.raid_legal.specs.Forced.{forced}
 use Rattle.raid_legal.proofs.Left.{Compels, forced_compels}

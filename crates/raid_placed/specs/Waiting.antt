@@ -1,5 +1,5 @@
 -- How the waiting requests change.
-use Rattle.std.specs.Prelude.{Bool, not, List, [], ◌∷◌, ◌++◌, filter}
+use Rattle.std.specs.Prelude.{not, List, [], ◌∷◌, ◌++◌, filter}
 use Rattle.raid_base.specs.declared.names.Txn.{Txn}
 use Rattle.raid_base.specs.declared.request.Request.{Request}
 use Rattle.raid_base.specs.declared.entry.Entry.{Entry}

@@ -17,7 +17,8 @@ pub use history::{
     waiting_requests_turn,
 };
 pub use views::{
-    asks_fit_placed_views, controllers_may_note, old_views_show_whom_a_switch_aborts,
-    placed_views_are_in_order, placed_views_show_who_is_backward,
-    switch_ends_leave_the_new_one, switches_turn_the_old_one, views_grow,
+    asks_fit_placed_views, controllers_may_note, old_views_have_no_end_of_who_runs,
+    old_views_show_whom_a_switch_aborts, placed_views_are_in_order,
+    placed_views_show_who_is_backward, switch_ends_leave_the_new_one, switches_turn_the_old_one,
+    views_grow,
 };

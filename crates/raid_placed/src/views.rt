@@ -10,7 +10,7 @@ ghost use Rattle.raid_base.specs.declared.entry.Entry.TheVariants.{SwitchOn, Swi
 ghost use Rattle.raid_base.specs.declared.verdict.Kind.{Kind};
 ghost use Rattle.raid_base.specs.declared.verdict.Method.{Method};
 ghost use Rattle.raid_workload.specs.declared.workload.Workload.{Workload};
-ghost use Rattle.raid_rules.specs.History.{noted, add, next, stamp, is_running};
+ghost use Rattle.raid_rules.specs.History.{noted, add, next, stamp, has_ended, is_running};
 ghost use Rattle.raid_rules.specs.Order.{IsInOrder, Fits, MayNote};
 ghost use Rattle.raid_rules.specs.Verdicts.{reading, writing};
 ghost use Rattle.raid_rules.specs.Views.{view_of, is_backward, abort_list};
@@ -53,8 +53,9 @@ pub fn switch_ends_leave_the_new_one()
     ensures after { (w : Workload) (h : List Entry) (k : ℕ) → Placed w h → forced w (noted h) ≡ Some (SwitchEnd k) → controllers (in_force w (add (noted h) (SwitchEnd k))) (add (noted h) (SwitchEnd k)) ≡ grown (next (noted h) (SwitchEnd k)) (newer (noted h) (in_force w (noted h)).next) }
 {}
 
-/// A forced SwitchOn finds one controller in force, and makes of it what the method says.
+/// A forced SwitchOn finds one controller in force, whose view it leaves in order, and makes of it what the method says.
 pub fn switches_turn_the_old_one()
+    ensures in_order { (w : Workload) (h : List Entry) (k : ℕ) (to : Kind) (method : Method) → Placed w h → forced w (noted h) ≡ Some (SwitchOn k to method) → IsInOrder ((older (in_force w (noted h)) (noted h)).1 ++ next (noted h) (SwitchOn k to method) ∷ []) }
     ensures alone { (w : Workload) (h : List Entry) (k : ℕ) (to : Kind) (method : Method) → Placed w h → forced w (noted h) ≡ Some (SwitchOn k to method) → controllers (in_force w (noted h)) (noted h) ≡ older (in_force w (noted h)) (noted h) ∷ [] }
     ensures after { (w : Workload) (h : List Entry) (k : ℕ) (to : Kind) (method : Method) → Placed w h → forced w (noted h) ≡ Some (SwitchOn k to method) → controllers (in_force w (add (noted h) (SwitchOn k to method))) (add (noted h) (SwitchOn k to method)) ≡ turned method to (off_list w (noted h) method to) (next (noted h) (SwitchOn k to method)) (older (in_force w (noted h)) (noted h)) }
 {}
@@ -69,4 +70,10 @@ pub fn placed_views_show_who_is_backward()
 pub fn old_views_show_whom_a_switch_aborts()
     ensures before { (w : Workload) (h : List Entry) (k : ℕ) (to : Kind) (method : Method) → Placed w h → forced w (noted h) ≡ Some (SwitchOn k to method) → abort_list method to (older (in_force w (noted h)) (noted h)).1 (running w (noted h)) ≡ off_list w (noted h) method to }
     ensures after { (w : Workload) (h : List Entry) (k : ℕ) (to : Kind) (method : Method) → Placed w h → forced w (noted h) ≡ Some (SwitchOn k to method) → abort_list method to ((older (in_force w (noted h)) (noted h)).1 ++ next (noted h) (SwitchOn k to method) ∷ []) (running w (noted h)) ≡ off_list w (noted h) method to }
+{}
+
+/// Nobody that runs has ended in the old controller's view, before it has noted a SwitchOn and after.
+pub fn old_views_have_no_end_of_who_runs()
+    ensures before { (w : Workload) (h : List Entry) → Placed w h → All (λ t. has_ended (older (in_force w (noted h)) (noted h)).1 t ≡ false) (running w (noted h)) }
+    ensures after { (w : Workload) (h : List Entry) (k : ℕ) (to : Kind) (method : Method) → Placed w h → All (λ t. has_ended ((older (in_force w (noted h)) (noted h)).1 ++ next (noted h) (SwitchOn k to method) ∷ []) t ≡ false) (running w (noted h)) }
 {}
