@@ -64,26 +64,28 @@ def some_items(rng, items):
 
 def free_history(rng):
     """A history in which transactions read, commit and abort as they like, and sites come and go."""
-    sites, items, txns = rng.randint(1, 3), rng.randint(1, 3), rng.randint(3, 7)
-    lines = tuple(ItemLine("abcd"[x], 0, tuple(sorted(rng.sample(range(1, sites + 1), rng.randint(1, sites)))))
-                  for x in range(items))
-    homes = tuple(Homed(rng.randint(1, sites), ()) for _ in range(txns))
-    base = fuzz.random_workload(rng, most_sites=1, events=False, switches=0)
-    w = Workload(**{**{f: getattr(base, f) for f in base.__dataclass_fields__}, "sites": sites, "items": lines,
-                    "programs": homes, "switches": (), "events": ()})
-    p = Prefix(w)
-    waiting = list(range(1, txns + 1))
+    p, waiting = empty_history(rng, rng.randint(1, 3), rng.randint(1, 3), rng.randint(3, 7))
     for _ in range(rng.randint(6, 22)):
         if waiting or p.running:
             p.push(free_entry(p, rng, waiting))
     return p
 
 
-def free_entry(p, rng, waiting):
+def empty_history(rng, sites, items, txns):
+    """A history without entries, and its transactions."""
+    lines = tuple(ItemLine("abcd"[x], 0, tuple(sorted(rng.sample(range(1, sites + 1), rng.randint(1, sites)))))
+                  for x in range(items))
+    homes = tuple(Homed(rng.randint(1, sites), ()) for _ in range(txns))
+    base = fuzz.random_workload(rng, most_sites=1, events=False, switches=0)
+    w = Workload(**{**{f: getattr(base, f) for f in base.__dataclass_fields__}, "sites": sites, "items": lines,
+                    "programs": homes, "switches": (), "events": ()})
+    return Prefix(w), list(range(1, txns + 1))
+
+
+def free_entry(p, rng, waiting, weights=(30, 40, 18, 2, 10)):
     w, running = p.w, sorted(p.running)
     items = len(w.items)
-    sorts, weights = ("begin", "read", "commit", "abort", "site"), (30, 40, 18, 2, 10)
-    sort = rng.choices(sorts, weights)[0]
+    sort = rng.choices(("begin", "read", "commit", "abort", "site"), weights)[0]
     if waiting and (sort == "begin" or not running):
         t = waiting.pop(0)
         return Begin(t, w.home(t))

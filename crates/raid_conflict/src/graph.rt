@@ -105,3 +105,214 @@ impl Graph {
         self.tables.clear();
     }
 }
+
+#[cfg(test)]
+mod tests {
+    use super::*;
+    use raid_base::{Act, Cause, Item, Pairs, Request, Site, Sites, Vector};
+    use raid_rules::conflict::is_listed;
+    use std::test::Fail;
+
+    const X: Item = Item(0);
+
+    const Y: Item = Item(1);
+
+    const Z: Item = Item(300);
+
+    fn begin(number: u32) -> Entry {
+        Entry::Begin {
+            txn: Txn(number),
+            home: Site(1),
+        }
+    }
+
+    fn read(number: u32, item: Item) -> Entry {
+        Entry::Read {
+            txn: Txn(number),
+            item,
+            site: Site(1),
+        }
+    }
+
+    fn abort(number: u32) -> Entry {
+        Entry::Abort {
+            txn: Txn(number),
+            cause: Cause::Own,
+            act: Act::Nothing,
+        }
+    }
+
+    fn one_write(alloc: Global, item: Item) -> Result<Pairs, NoMemory> {
+        let mut writes = Pairs::new(alloc);
+        writes.push((item, 1))?;
+        Ok(writes)
+    }
+
+    fn commit(alloc: Global, number: u32, item: Item) -> Result<Entry, NoMemory> {
+        Ok(Entry::Commit {
+            txn: Txn(number),
+            request: Request {
+                reads: Pairs::new(alloc),
+                writes: one_write(alloc, item)?,
+                under: Vector {
+                    count: 1,
+                    sessions: [1, 0, 0, 0, 0, 0, 0, 0],
+                },
+            },
+            applied: Sites(1),
+        })
+    }
+
+    /// A graph that was told of the entries in order, each with its transaction's number as its stamp.
+    fn graph_of(alloc: Global, entries: &[Entry]) -> Result<Graph, NoMemory> {
+        let mut graph = Graph::new(alloc, 0, 0)?;
+        let mut at = 0_u32;
+        for entry in entries {
+            at = at.saturating_add(1);
+            let stamp = match entry {
+                Entry::Begin { txn, .. }
+                | Entry::Read { txn, .. }
+                | Entry::Commit { txn, .. }
+                | Entry::Abort { txn, .. } => txn.0,
+                _ => 0,
+            };
+            graph.note(at, stamp, entry)?;
+        }
+        Ok(graph)
+    }
+
+    fn closes(alloc: Global, graph: &mut Graph, number: u32, item: Item) -> Result<bool, NoMemory> {
+        let reads = Pairs::new(alloc);
+        let writes = one_write(alloc, item)?;
+        Ok(graph.would_close(&Ask::Commit {
+            txn: Txn(number),
+            stamp: number,
+            reads: &reads,
+            writes: &writes,
+        }))
+    }
+
+    #[test]
+    fn a_commit_that_closes_a_cycle_is_told_from_one_that_does_not(
+        rt: HostRuntime,
+    ) -> Result<(), Fail> {
+        let alloc = rt.alloc();
+        let entries = [
+            begin(1),
+            begin(2),
+            read(1, X),
+            read(2, Y),
+            commit(alloc, 1, Y)?,
+        ];
+        let mut graph = graph_of(alloc, &entries)?;
+        let other = closes(alloc, &mut graph, 2, Z)?;
+        let own = closes(alloc, &mut graph, 2, X)?;
+        let again = closes(alloc, &mut graph, 2, X)?;
+        assert_eq!(rt; (other, own, again), (false, true, true));
+        let read_back = graph.would_close(&Ask::Read {
+            txn: Txn(2),
+            stamp: 2,
+            item: Y,
+        });
+        let read_other = graph.would_close(&Ask::Read {
+            txn: Txn(2),
+            stamp: 2,
+            item: X,
+        });
+        assert_eq!(rt; (read_back, read_other), (true, false));
+        graph.clear();
+        let cleared = closes(alloc, &mut graph, 2, X)?;
+        assert!(rt; !cleared);
+        Ok(())
+    }
+
+    #[test]
+    fn edges_of_an_aborted_transaction_do_not_count(rt: HostRuntime) -> Result<(), Fail> {
+        let alloc = rt.alloc();
+        let entries = [
+            begin(1),
+            begin(2),
+            begin(3),
+            read(1, X),
+            commit(alloc, 2, X)?,
+            read(3, X),
+            read(3, Y),
+        ];
+        let mut graph = graph_of(alloc, &entries)?;
+        let before = closes(alloc, &mut graph, 1, Y)?;
+        graph.note(8, 3, &abort(3))?;
+        let after = closes(alloc, &mut graph, 1, Y)?;
+        assert_eq!(rt; (before, after), (true, false));
+        Ok(())
+    }
+
+    #[test]
+    fn a_path_of_two_steps_reaches_the_older_one(rt: HostRuntime) -> Result<(), Fail> {
+        let alloc = rt.alloc();
+        let entries = [
+            begin(1),
+            begin(2),
+            begin(3),
+            read(2, X),
+            commit(alloc, 1, X)?,
+            read(3, Y),
+            commit(alloc, 2, Y)?,
+        ];
+        let mut graph = graph_of(alloc, &entries)?;
+        let third = (
+            graph.reaches_before(Txn(3), 1),
+            graph.reaches_before(Txn(3), 2),
+        );
+        assert_eq!(rt; third, (false, true));
+        assert!(rt; !graph.reaches_before(Txn(1), 9));
+        Ok(())
+    }
+
+    #[test]
+    fn a_reader_is_ordered_before_a_writer_that_committed_first(
+        rt: HostRuntime,
+    ) -> Result<(), Fail> {
+        let alloc = rt.alloc();
+        let entries = [
+            begin(1),
+            begin(2),
+            read(1, X),
+            read(2, X),
+            commit(alloc, 2, X)?,
+            commit(alloc, 1, Y)?,
+        ];
+        let graph = graph_of(alloc, &entries)?;
+        let order = graph.order(alloc)?;
+        match &order {
+            Order::Whole(list) => { assert_eq!(rt; list.as_slice(), [Txn(1), Txn(2)].as_slice()) }
+            Order::Cyclic(_) => assert!(rt; false),
+        }
+        Ok(())
+    }
+
+    #[test]
+    fn two_that_committed_against_each_other_are_a_cycle(rt: HostRuntime) -> Result<(), Fail> {
+        let alloc = rt.alloc();
+        let entries = [
+            begin(1),
+            begin(2),
+            begin(3),
+            read(1, X),
+            read(2, Y),
+            commit(alloc, 3, Z)?,
+            commit(alloc, 1, Y)?,
+            commit(alloc, 2, X)?,
+        ];
+        let graph = graph_of(alloc, &entries)?;
+        let order = graph.order(alloc)?;
+        match &order {
+            Order::Whole(_) => assert!(rt; false),
+            Order::Cyclic(list) => {
+                assert_eq!(rt; list.len(), 2);
+                assert!(rt; is_listed(list.as_slice(), Txn(1)));
+                assert!(rt; is_listed(list.as_slice(), Txn(2)));
+            }
+        }
+        Ok(())
+    }
+}

@@ -125,3 +125,74 @@ impl Controller for GraphControl {
         self.commits.clear();
     }
 }
+
+#[cfg(test)]
+mod tests {
+    use super::*;
+    use raid_base::{Item, Request, Site, Sites, Vector};
+    use std::test::Fail;
+
+    const X: Item = Item(0);
+
+    const Y: Item = Item(1);
+
+    fn one_write(alloc: Global, item: Item) -> Result<Pairs, NoMemory> {
+        let mut writes = Pairs::new(alloc);
+        writes.push((item, 1))?;
+        Ok(writes)
+    }
+
+    fn begin(number: u32) -> Entry {
+        Entry::Begin {
+            txn: Txn(number),
+            home: Site(1),
+        }
+    }
+
+    fn read(number: u32, item: Item) -> Entry {
+        Entry::Read {
+            txn: Txn(number),
+            item,
+            site: Site(1),
+        }
+    }
+
+    #[test]
+    fn refuses_what_closes_a_cycle_and_carries_who_is_running(rt: HostRuntime) -> Result<(), Fail> {
+        let alloc = rt.alloc();
+        let mut control = GraphControl::new(alloc, 2, 2)?;
+        control.note(1, 1, &begin(1))?;
+        control.note(2, 2, &begin(2))?;
+        control.note(3, 1, &read(1, X))?;
+        control.note(4, 2, &read(2, Y))?;
+        let commit = Entry::Commit {
+            txn: Txn(1),
+            request: Request {
+                reads: Pairs::new(alloc),
+                writes: one_write(alloc, Y)?,
+                under: Vector {
+                    count: 1,
+                    sessions: [1, 0, 0, 0, 0, 0, 0, 0],
+                },
+            },
+            applied: Sites(1),
+        };
+        control.note(5, 1, &commit)?;
+        let reads = Pairs::new(alloc);
+        let writes = one_write(alloc, X)?;
+        let ask = Ask::Commit {
+            txn: Txn(2),
+            stamp: 2,
+            reads: &reads,
+            writes: &writes,
+        };
+        assert!(rt; matches!(control.judge(&ask), Verdict::Reject(Refusal::Cycle)));
+        assert!(rt; control.backward(Txn(2)));
+        let carry = control.carry(alloc)?;
+        assert_eq!(rt; carry.len(), 2);
+        let mut next = GraphControl::new(alloc, 2, 2)?;
+        next.load(&carry)?;
+        assert!(rt; matches!(next.judge(&ask), Verdict::Grant));
+        Ok(())
+    }
+}

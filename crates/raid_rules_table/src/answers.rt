@@ -2,12 +2,12 @@
 
 ghost use Rattle.std.specs.Prelude.{◌≤◌};
 
-use crate::entries;
-use crate::words::{self, Head, Word};
-use anyhow::Result;
+use anyhow::{Result, bail};
 use raid_base::{Ask, Kind, Listed, Noted, Placement, Refusal, Site, Txn, Verdict};
 use raid_rules::order::{Order, order_of};
 use raid_rules::{judge, sessions};
+use raid_view_lines::entries;
+use raid_view_lines::words::{self, Head, Word};
 use std::alloc::Global;
 
 /// The kinds, in the order in which a line has their verdicts.
@@ -202,6 +202,7 @@ impl Table {
             Head::Source => self.source(line)?,
             Head::Order => self.order(alloc, line, false)?,
             Head::Cyclic => self.order(alloc, line, true)?,
+            Head::Carried => bail!("no line of such a view"),
             Head::End => {}
         }
         Ok(head)

@@ -3,12 +3,10 @@
 #![tactic(auto)]
 
 mod answers;
-mod entries;
-mod words;
 
 use answers::Table;
 use anyhow::Result;
-use words::{Head, words_of};
+use raid_view_lines::words::{Head, words_of};
 
 fn main(rt: HostRuntime) -> Result<()> {
     let mut table = Table::new(rt.alloc());

@@ -1,1 +1,4 @@
+pub mod Kept
+pub mod May
 pub mod Together
+pub mod Turned

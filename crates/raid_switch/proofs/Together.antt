@@ -38,7 +38,7 @@ module _ {C : Type 0} (kind_of : C → Kind) (stands : C → List Noted → Type
   joint P first next second some f cs e = two P first next f cs (subst (λ s. AreInForce kind_of stands first s cs) some e)
 
 -- filters one after the other
-both : {X : Type 0} (p q : X → Bool) (xs : List X) → filter p (filter q xs) ≡ filter (λ x. q x && p x) xs
+pub both : {X : Type 0} (p q : X → Bool) (xs : List X) → filter p (filter q xs) ≡ filter (λ x. q x && p x) xs
 both p q [] = refl
 both p q (x ∷ xs) = go (q x) (both p q xs)
   where

@@ -1,8 +1,10 @@
 -- Controllers in force, each with its kind and a view that it stands for, and what they say together.
-use Rattle.std.specs.Prelude.{◌≡◌, ℤ, Bool, not, ◌&&◌, List, [], ◌∷◌, ◌++◌, filter, fold, map, option_map, option_to_list, Option, ⊤}
+use Rattle.std.specs.Prelude.{◌≡◌, ℤ, Bool, true, false, not, ◌&&◌, List, [], ◌∷◌, ◌++◌, filter, fold, map, option_map, option_to_list, Option, ⊤}
 use Rattle.std.specs.List.{list_any}
 use Rattle.raid_base.specs.declared.names.Txn.{Txn}
 use Rattle.raid_base.specs.declared.names.Item.{Item}
+use Rattle.raid_base.specs.declared.entry.Entry.{Entry}
+use Rattle.raid_base.specs.declared.entry.Entry.TheVariants.{SwitchOn, SwitchEnd}
 use Rattle.raid_base.specs.declared.entry.Noted.{Noted}
 use Rattle.raid_base.specs.declared.verdict.Kind.{Kind}
 use Rattle.raid_base.specs.declared.verdict.Verdict.{Verdict}
@@ -42,3 +44,9 @@ grown n cs = map (λ c. (c.0, c.1 ++ n ∷ [])) cs
 -- the entries that are of none of these transactions
 abbrev pub without : List Txn → List Noted → List Noted
 without off view = filter (λ n. not (list_any (λ t. is_of t n.entry) off)) view
+
+-- the entry is neither the start nor the end of a switch
+abbrev pub turns_nothing : Entry → Bool
+turns_nothing (SwitchOn k kind method) = false
+turns_nothing (SwitchEnd k) = false
+turns_nothing other = true

@@ -1,16 +1,22 @@
-ghost use Rattle.std.specs.Prelude.{◌≡◌, ℕ, ℤ, true, false, List, [], ◌∷◌, ◌++◌, All, Some, None, is_some, option_map, option_to_list, OnOk, OnErr, IfOk, IfErr};
+ghost use Rattle.std.specs.Prelude.{◌≡◌, ℕ, ℤ, true, false, not, List, [], ◌∷◌, ◌++◌, All, Some, None, is_some, option_map, option_to_list, OnOk, OnErr, IfOk, IfErr};
 ghost use Rattle.std.specs.Bool.{OnTrue, OnFalse};
+ghost use Rattle.std.specs.List.{list_any};
 ghost use Rattle.raid_base.specs.declared.names.Txn.{Txn};
 ghost use Rattle.raid_base.specs.declared.names.Item.{Item};
 ghost use Rattle.raid_base.specs.declared.entry.Noted.{Noted};
 ghost use Rattle.raid_base.specs.declared.verdict.Kind.{Kind};
 ghost use Rattle.raid_rules.specs.Verdicts.{asked, verdict_of};
+ghost use Rattle.raid_rules.specs.History.{noted, has_ended};
+ghost use Rattle.raid_legal.specs.InForce.{is_tied};
+ghost use Rattle.raid_conflict.specs.Tables.{Stands};
 ghost use Rattle.raid_rules.specs.Order.{IsInOrder, Fits, MayNote};
 ghost use Rattle.raid_control.specs.Carried.{IsCarry, carried, is_generic};
 ghost use Rattle.raid_switch.specs.Force.{Each, AreInForce, of_each, verdict_by, blocks_by, grown, without};
 
 use raid_base::{Ask, Entry, Kind, NoMemory, Pairs, Txn, TxnList, Verdict, meet};
+use raid_conflict::Graph;
 use raid_control::{Blocks, Carry, Controller};
+use raid_history::History;
 use std::alloc::Global;
 use std::mem;
 
@@ -25,7 +31,7 @@ pub type Control = Box<dyn Controller>;
 pub struct Eras {
     first: Control,
     second: Option<Control>,
-    // The number of the SwitchOn with which the second came.
+    // The number of the SwitchOn with which the second came; without a second it says nothing.
     since: u32,
     finished: bool,
 }
@@ -121,6 +127,27 @@ fn note_second(
         }
         None => Ok(()),
     }
+}
+
+/// Whether the transaction ties a new controller to the time before the entry with this number.
+fn is_tied_to(graph: &mut Graph, history: &History, txn: Txn, before: u32) -> bool
+    ensures answer { Stands graph.old (noted history.now) → has_ended (noted history.now) txn ≡ false → result ≡ is_tied (noted history.now) before txn }
+    ensures stands { (view : List Noted) → Stands graph.old view → Stands graph.new view }
+{
+    history.stamp(txn) < before || graph.reaches_before(txn, before)
+}
+
+/// Whether one of the transactions does.
+fn any_tied(graph: &mut Graph, history: &History, running: &[Txn], before: u32) -> bool
+    ensures answer { Stands graph.old (noted history.now) → All (λ t. has_ended (noted history.now) t ≡ false) running.now → result ≡ list_any (is_tied (noted history.now) before) running.now }
+    ensures stands { (view : List Noted) → Stands graph.old view → Stands graph.new view }
+{
+    for txn in running {
+        if is_tied_to(graph, history, *txn, before) {
+            return true;
+        }
+    }
+    false
 }
 
 impl Eras {
@@ -264,6 +291,16 @@ impl Eras {
     {
         self.second = Some(next);
         self.since = at;
+    }
+
+    /// Whether the switch is over, for whatever history the graph stands for: no running transaction began before its SwitchOn, or
+    /// conflicts lead from it to one that did. The graph still stands for that history. Takes no memory.
+    pub fn end_due(&self, graph: &mut Graph, running: &TxnList, history: &History) -> bool
+        requires joint { is_some self.now.second ≡ true }
+        ensures due { Stands graph.old (noted history.now) → All (λ t. has_ended (noted history.now) t ≡ false) running.now → result ≡ not (list_any (is_tied (noted history.now) self.now.since) running.now) }
+        ensures stands { (view : List Noted) → Stands graph.old view → Stands graph.new view }
+    {
+        !any_tied(graph, history, running.as_slice(), self.since)
     }
 
     /// Lets the old controller of two go, and hands it back: the new one alone is in force. Takes no memory.

@@ -3,6 +3,7 @@
 
 pub mod abort;
 pub mod eras;
+pub mod laws;
 
 pub use abort::abort_list;
 pub use eras::{Control, Eras};

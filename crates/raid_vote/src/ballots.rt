@@ -100,7 +100,7 @@ impl Ballots {
         awaited_in(self.ballots.as_slice(), txn)
     }
 
-    /// Whether the transaction awaits no vote.
+    /// Whether the transaction awaits no vote, as it does where it has no open ballot.
     pub fn is_ready(&self, txn: Txn) -> bool
         ensures { result ≡ (length (words.awaited self.now txn) == 0) }
     {

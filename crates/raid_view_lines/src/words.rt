@@ -3,7 +3,7 @@
 ghost use Rattle.std.specs.Prelude.{◌≤◌, IfOk};
 
 use anyhow::{Result, bail};
-use raid_base::{Item, Listed, Refusal, Site, Txn, Verdict};
+use raid_base::{Item, Kind, Listed, Refusal, Site, Txn, Verdict};
 use std::alloc::Global;
 
 /// What a line says.
@@ -22,6 +22,7 @@ pub enum Head {
     Source,
     Order,
     Cyclic,
+    Carried,
     End,
 }
 
@@ -44,6 +45,7 @@ pub enum Sort {
 pub enum Word {
     Head(Head),
     Sort(Sort),
+    Kind(Kind),
     Verdict(Verdict),
     Answer(bool),
     Number(u32),
@@ -65,6 +67,7 @@ fn word_of(text: &str) -> Result<Word> {
         "source" => Word::Head(Head::Source),
         "order" => Word::Head(Head::Order),
         "cyclic" => Word::Head(Head::Cyclic),
+        "carried" => Word::Head(Head::Carried),
         "end" => Word::Head(Head::End),
         "begin" => Word::Sort(Sort::Begin),
         "read" => Word::Sort(Sort::Read),
@@ -75,6 +78,10 @@ fn word_of(text: &str) -> Result<Word> {
         "up" => Word::Sort(Sort::Up),
         "clear" => Word::Sort(Sort::Clear),
         "other" => Word::Sort(Sort::Other),
+        "lock" => Word::Kind(Kind::Lock),
+        "stamp" => Word::Kind(Kind::Stamp),
+        "valid" => Word::Kind(Kind::Valid),
+        "graph" => Word::Kind(Kind::Graph),
         "grant" => Word::Verdict(Verdict::Grant),
         "wait" => Word::Verdict(Verdict::Wait),
         "late" => Word::Verdict(Verdict::Reject(Refusal::Late)),
@@ -109,6 +116,14 @@ pub fn entry_sort(words: &[Word], place: usize) -> Result<Sort> {
     match words.get(place) {
         Some(Word::Sort(sort)) => Ok(*sort),
         _ => bail!("no kind of entry"),
+    }
+}
+
+/// The kind of controller at a place.
+pub fn kind(words: &[Word], place: usize) -> Result<Kind> {
+    match words.get(place) {
+        Some(Word::Kind(kind)) => Ok(*kind),
+        _ => bail!("no kind of controller"),
     }
 }
 

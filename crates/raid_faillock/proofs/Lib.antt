@@ -1,0 +1,4 @@
+pub mod Cells
+pub mod Owed
+pub mod Sources
+pub mod Stand

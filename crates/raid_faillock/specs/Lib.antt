@@ -1,0 +1,3 @@
+pub mod Debts
+pub mod Sets
+pub mod Stands
