@@ -26,14 +26,14 @@ use Rattle.raid_legal.specs.InForce.{InForce, in_force, is_joint, is_over, turn,
 use Rattle.raid_legal.specs.Forced.{forced}
 use Rattle.raid_conflict.specs.Listed.{Extends}
 use Rattle.raid_conflict.proofs.Extend.{before_last}
-use Rattle.raid_switch.specs.Force.{grown}
+use Rattle.raid_switch.specs.Force.{grown, turns_nothing}
 use Rattle.raid_serial.proofs.Facts.{Fact, each_grants, some_is, none_is}
 use Rattle.raid_serial.proofs.Force.{in_force_push}
 use Rattle.raid_serial.proofs.Ordered.{Ordered, ordered_add}
 use Rattle.raid_serial.proofs.Real.{lt_true}
 use Rattle.raid_serial.proofs.Views.{view_in_order, read_fits_view, commit_fits_view}
 use Rattle.raid_placed.specs.Placed.{Placeable, Placed}
-use Rattle.raid_placed.specs.Turned.{is_switch, older}
+use Rattle.raid_placed.specs.Turned.{older}
 use Rattle.raid_placed.proofs.Sent.{placed_fact, by_facts, forced_placeable}
 use Rattle.raid_placed.proofs.Orderly.{placed_ordered}
 
@@ -88,19 +88,19 @@ grow_controllers f p e b =
     ∙ ap (λ cs. (f.kind, view_of f.view p ++ next p e ∷ []) ∷ cs) (grow_newer p e f.next b.low_too)
 
 -- an entry that is no switch's changes nothing else
-turn_same : (w : Workload) (p : List Noted) (f : InForce) (k : ℕ) (e : Entry) → is_switch e ≡ false → turn w p f k e ≡ f
-turn_same w p f k (SwitchOn j to method) q = absurd (true≢false q)
-turn_same w p f k (SwitchEnd j) q = absurd (true≢false q)
+turn_same : (w : Workload) (p : List Noted) (f : InForce) (k : ℕ) (e : Entry) → turns_nothing e ≡ true → turn w p f k e ≡ f
+turn_same w p f k (SwitchOn j to method) q = absurd (true≢false (sym q))
+turn_same w p f k (SwitchEnd j) q = absurd (true≢false (sym q))
 turn_same w p f k other q = refl
 
-pub placed_grow : (w : Workload) (h : List Entry) (e : Entry) → Placed w h → is_switch e ≡ false →
+pub placed_grow : (w : Workload) (h : List Entry) (e : Entry) → Placed w h → turns_nothing e ≡ true →
     controllers (in_force w (add (noted h) e)) (add (noted h) e) ≡ grown (next (noted h) e) (controllers (in_force w (noted h)) (noted h))
 placed_grow w h e l q =
     let p : List Noted = noted h in
     ap (λ f. controllers f (add p e)) (in_force_push w p e ∙ turn_same w p (in_force w p) (length p + 1) e q)
     ∙ grow_controllers (in_force w p) p e (placed_bounds w h l)
 
-pub placed_same : (w : Workload) (p : List Noted) (e : Entry) → is_switch e ≡ false → in_force w (add p e) ≡ in_force w p
+pub placed_same : (w : Workload) (p : List Noted) (e : Entry) → turns_nothing e ≡ true → in_force w (add p e) ≡ in_force w p
 placed_same w p e q = in_force_push w p e ∙ turn_same w p (in_force w p) (length p + 1) e q
 
 -- one controller alone

@@ -101,6 +101,9 @@ module _ (w : Workload) (p : List Noted) where
   pub placed_fact : (e : Entry) → Placeable w p e → Fact w p e
   placed_fact e g = goes_fact e (forced w p) refl g
 
+  pub unforced_placeable : (e : Entry) → forced w p ≡ None → Sent w p e → Placeable w p e
+  unforced_placeable e q s = subst (Goes w p e) (sym q) s
+
   pub forced_placeable : (e : Entry) → forced w p ≡ Some e → Placeable w p e
   forced_placeable e q = subst (Goes w p e) (sym q) refl
 

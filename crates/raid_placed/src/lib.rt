@@ -10,7 +10,9 @@ mod hearing;
 mod history;
 mod views;
 
-pub use hearing::{forced_entries_run_out, hearing_keeps_placed, settling_keeps_placed};
+pub use hearing::{
+    forced_entries_run_out, hearing_keeps_placed, settling_goes_step_by_step, settling_keeps_placed,
+};
 pub use history::{
     legal_are_placed, placeable_may_follow, placeable_names_are_known, placed_are_in_order,
     placed_are_of_the_workload, placed_are_serial, placed_push, running_lists_are_one,

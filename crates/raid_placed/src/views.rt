@@ -18,9 +18,9 @@ ghost use Rattle.raid_legal.specs.Seen.{running};
 ghost use Rattle.raid_legal.specs.InForce.{in_force, turn, is_joint, newer, controllers, off_list};
 ghost use Rattle.raid_legal.specs.Forced.{forced};
 ghost use Rattle.raid_conflict.specs.Listed.{Extends};
-ghost use Rattle.raid_switch.specs.Force.{grown};
+ghost use Rattle.raid_switch.specs.Force.{grown, turns_nothing};
 ghost use Rattle.raid_placed.specs.Placed.{Placed, Placeable};
-ghost use Rattle.raid_placed.specs.Turned.{is_switch, older, turned};
+ghost use Rattle.raid_placed.specs.Turned.{older, turned};
 
 /// The views of the controllers in force are in order.
 pub fn placed_views_are_in_order()
@@ -43,8 +43,8 @@ pub fn controllers_may_note()
 /// Each entry turns what is in force; one that is no switch's leaves in force what is, with each view grown by it.
 pub fn views_grow()
     ensures turn { (w : Workload) (p : List Noted) (e : Entry) → in_force w (add p e) ≡ turn w p (in_force w p) (length p + 1) e }
-    ensures same { (w : Workload) (p : List Noted) (e : Entry) → is_switch e ≡ false → in_force w (add p e) ≡ in_force w p }
-    ensures grow { (w : Workload) (h : List Entry) (e : Entry) → Placed w h → is_switch e ≡ false → controllers (in_force w (add (noted h) e)) (add (noted h) e) ≡ grown (next (noted h) e) (controllers (in_force w (noted h)) (noted h)) }
+    ensures same { (w : Workload) (p : List Noted) (e : Entry) → turns_nothing e ≡ true → in_force w (add p e) ≡ in_force w p }
+    ensures grow { (w : Workload) (h : List Entry) (e : Entry) → Placed w h → turns_nothing e ≡ true → controllers (in_force w (add (noted h) e)) (add (noted h) e) ≡ grown (next (noted h) e) (controllers (in_force w (noted h)) (noted h)) }
 {}
 
 /// A forced SwitchEnd finds two controllers in force, and leaves the second one alone, with its view grown by the entry.
