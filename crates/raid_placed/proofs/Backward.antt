@@ -1,10 +1,9 @@
 -- Who is backward over the view in force, and so whom a switch aborts.
-use Rattle.std.proofs.Common.{◌≡◌, ℕ, ◌<◌, ◌||◌, ◌&&◌, inl, inr, Bool, true, false, not, nat_lt, cond, List, [], ◌∷◌, ◌++◌, length, arith, sym, ◌∙◌, ap, subst, refl, Some}
-use Rattle.std.specs.Prelude.{find}
+use Rattle.std.proofs.Common.{◌≡◌, ℕ, ◌<◌, ◌||◌, ◌&&◌, Bool, true, false, not, nat_lt, cond, List, [], ◌∷◌, ◌++◌, length, get_or, arith, sym, ◌∙◌, ap, refl, Some}
 use Rattle.std.specs.List.{All, filter, list_any}
-use Rattle.std.proofs.lemmas.Bool.{true≢false, or_left, and_parts}
+use Rattle.std.proofs.lemmas.Bool.{true≢false, or_left}
 use Rattle.std.proofs.lemmas.Grind.{common_steps}
-use Rattle.std.proofs.lemmas.List.Elements.{All-cons}
+use Rattle.std.proofs.lemmas.List.Elements.{filter_passes}
 use Rattle.raid_base.specs.declared.names.Txn.{Txn}
 use Rattle.raid_base.specs.declared.names.Item.{Item}
 use Rattle.raid_base.specs.declared.entry.Entry.{Entry}
@@ -16,7 +15,7 @@ use Rattle.raid_base.specs.Names.{is_txn, has_txn, holds}
 use Rattle.raid_workload.specs.declared.workload.Workload.{Workload}
 use Rattle.raid_workload.specs.Parts.{txns}
 use Rattle.raid_rules.specs.Entries.{is_read, is_commit, is_end_of}
-use Rattle.raid_rules.specs.History.{noted, add, next, stamp, has_begun, has_ended, is_running}
+use Rattle.raid_rules.specs.History.{noted, next, stamp, has_ended, is_running}
 use Rattle.raid_rules.specs.Views.{View, view_of, is_backward, is_overwrite, aborts_backward, abort_list}
 use Rattle.raid_legal.specs.Seen.{running}
 use Rattle.raid_legal.specs.InForce.{in_force, off_list}
@@ -24,17 +23,16 @@ use Rattle.raid_legal.specs.Forced.{forced}
 use Rattle.raid_serial.proofs.System.{Hist, View as InView}
 use Rattle.raid_serial.proofs.Theorem.{State, inv}
 use Rattle.raid_serial.proofs.Corollaries.{backward_in, backward_out}
-use Rattle.raid_serial.proofs.Translate.{txn, numbers_of, hist_of, rep_hist, mem_txn, not_true, has_any, any_has}
-use Rattle.raid_serial.proofs.Real.{filter_has, rep_view, run_model}
+use Rattle.raid_serial.proofs.Translate.{txn, numbers_of, hist_of, rep_hist, mem_txn, not_true}
+use Rattle.raid_serial.proofs.Real.{rep_view, run_model}
 use Rattle.raid_serial.proofs.Backward.{backward_real, backward_model}
-use Rattle.raid_serial.proofs.Facts.{Fact, Quiet}
+use Rattle.raid_serial.proofs.Facts.{Quiet}
 use Rattle.raid_serial.proofs.Tamed.{Agrees, Stands, step, agrees_back, begins_stands, state_of, find_none}
-use Rattle.raid_serial.proofs.Views.{same_tests}
-use Rattle.raid_rules.proofs.Push.{same_txn}
+use Rattle.raid_serial.proofs.Views.{same_tests, commit_fits_view}
 use Rattle.raid_placed.specs.Placed.{Placed}
 use Rattle.raid_placed.specs.Turned.{older}
 use Rattle.raid_placed.proofs.Sent.{placed_fact, by_facts, forced_placeable}
-use Rattle.raid_placed.proofs.Orderly.{placed_known, known_running, txn_kept}
+use Rattle.raid_placed.proofs.Orderly.{placed_ordered, txn_kept}
 
 -- a placed history is tame, with its own stamps
 stands_with : (S : ℕ → ℕ) (w : Workload) (h : List Entry) → Placed w h → Agrees S (noted h) → Stands S w (noted h)
@@ -114,8 +112,8 @@ pub forced_aborts : (w : Workload) (h : List Entry) (k : ℕ) (to : Kind) (metho
 forced_aborts w h k to method l q =
     let p : List Noted = noted h in
     alike_txns (λ t. aborts_backward method to && is_backward (view_of (in_force w p).view p) t) (λ t. aborts_backward method to && is_backward p t) (running w p) (λ t i.
-        (let run : is_running p t ≡ true = txn_kept (is_running p) (txns w) t i in
-        ap (λ b. aborts_backward method to && b) (placed_backward w h l t run (not_true (has_txn (in_force w p).off t) (find_none (is_running p) (in_force w p).off t run (forced_quiet w p k to method q))))))
+    (let run : is_running p t ≡ true = txn_kept (is_running p) (txns w) t i in
+    ap (λ b. aborts_backward method to && b) (placed_backward w h l t run (not_true (has_txn (in_force w p).off t) (find_none (is_running p) (in_force w p).off t run (forced_quiet w p k to method q))))))
 
 pub forced_aborts_noted : (w : Workload) (h : List Entry) (k : ℕ) (to : Kind) (method : Method) → Placed w h → forced w (noted h) ≡ Some (SwitchOn k to method) →
     abort_list method to ((older (in_force w (noted h)) (noted h)).1 ++ next (noted h) (SwitchOn k to method) ∷ []) (running w (noted h)) ≡ off_list w (noted h) method to
@@ -125,3 +123,16 @@ forced_aborts_noted w h k to method l q =
     let n : Noted = next p (SwitchOn k to method) in
     alike_txns (λ t. aborts_backward method to && is_backward (v ++ n ∷ []) t) (λ t. aborts_backward method to && is_backward v t) (running w p) (λ t i. ap (λ b. aborts_backward method to && b) (switch_backward t k to method n refl v))
     ∙ forced_aborts w h k to method l q
+
+-- nobody of those that run has ended in the old view, with the entry noted there or not
+running_on : (w : Workload) (h : List Entry) → Placed w h → (v : View) (k : ℕ) (d : Txn) → k < length (running w (noted h)) → has_ended (view_of v (noted h)) (get_or (running w (noted h)) k d) ≡ false
+running_on w h l v k d below = (commit_fits_view v (noted h) (placed_ordered w h l) (get_or (running w (noted h)) k d) [] (filter_passes (is_running (noted h)) (txns w) k d below)).goes_on
+
+pub placed_running_on : (w : Workload) (h : List Entry) → Placed w h → All (λ t. has_ended (older (in_force w (noted h)) (noted h)).1 t ≡ false) (running w (noted h))
+placed_running_on w h l = running_on w h l (in_force w (noted h)).view
+
+pub switch_running_on : (w : Workload) (h : List Entry) (k : ℕ) (to : Kind) (method : Method) → Placed w h →
+    All (λ t. has_ended ((older (in_force w (noted h)) (noted h)).1 ++ next (noted h) (SwitchOn k to method) ∷ []) t ≡ false) (running w (noted h))
+switch_running_on w h k to method l i d below =
+    any_push (λ m. is_end_of (get_or (running w (noted h)) i d) m.entry) (view_of (in_force w (noted h)).view (noted h)) (next (noted h) (SwitchOn k to method)) refl
+    ∙ running_on w h l (in_force w (noted h)).view i d below

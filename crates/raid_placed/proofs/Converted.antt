@@ -1,44 +1,42 @@
 -- What a SwitchOn makes of the controllers in force: whoever runs has all its Begins and Reads in the old view, so what is carried from that is the new one's view.
-use Rattle.std.proofs.Common.{◌≡◌, ℕ, ◌+◌, ◌<◌, ◌≤◌, ◌⊎◌, inl, inr, ◌||◌, ◌&&◌, ◌==◌, append-nil, Bool, true, false, not, nat_lt, if◌then◌else◌, cond, List, [], ◌∷◌, ◌++◌, length, arith, sym, ◌∙◌, ap, subst, refl, Option, Some, None, length-append}
-use Rattle.std.specs.Prelude.{is_some}
-use Rattle.std.specs.List.{All, filter, list_any}
+use Rattle.std.proofs.Common.{◌≡◌, ℕ, ◌+◌, ◌<◌, ◌≤◌, ◌⊎◌, inl, inr, ◌||◌, ◌&&◌, ◌==◌, append-nil, Bool, true, false, not, nat_lt, if◌then◌else◌, cond, List, [], ◌∷◌, ◌++◌, length, arith, sym, ◌∙◌, ap, subst, refl, Option, Some, None}
+use Rattle.std.specs.List.{filter, list_any}
 use Rattle.std.proofs.lemmas.Bool.{true≢false, or_left, and_parts, and_from, eqb-true}
 use Rattle.std.proofs.lemmas.Grind.{common_steps}
 use Rattle.raid_base.specs.declared.names.Txn.{Txn}
 use Rattle.raid_base.specs.declared.entry.Entry.{Entry}
-use Rattle.raid_base.specs.declared.entry.Entry.TheVariants.{Begin, Read, Wait, Commit, Abort, Ack, SwitchOn, SwitchEnd, Down, Up, Clear}
+use Rattle.raid_base.specs.declared.entry.Entry.TheVariants.{Begin, Read, Commit, Abort, SwitchOn, SwitchEnd}
 use Rattle.raid_base.specs.declared.entry.Noted.{Noted}
 use Rattle.raid_base.specs.declared.verdict.Kind.{Kind}
 use Rattle.raid_base.specs.declared.verdict.Method.{Method}
 use Rattle.raid_base.specs.declared.verdict.Method.TheVariants.{Generic, Convert, Suffix}
 use Rattle.raid_base.specs.Names.{is_txn, has_txn}
 use Rattle.raid_workload.specs.declared.workload.Workload.{Workload}
-use Rattle.raid_workload.specs.Parts.{txns}
 use Rattle.raid_rules.specs.Entries.{is_begin, is_read, is_begin_of, is_end_of}
 use Rattle.raid_rules.specs.History.{noted, add, next, stamp, has_begun, has_ended, is_running}
-use Rattle.raid_rules.specs.Order.{is_of, is_seen}
+use Rattle.raid_rules.specs.Order.{is_of, IsInOrder, MayNote}
 use Rattle.raid_rules.specs.Views.{View, is_in, view_of}
 use Rattle.raid_rules.proofs.Push.{same_txn}
 use Rattle.raid_rules.proofs.ViewsOf.{view_push}
-use Rattle.std.proofs.lemmas.List.Elements.{filter-append}
+use Rattle.std.proofs.lemmas.List.Elements.{filter-append, All-head}
 use Rattle.raid_legal.specs.Seen.{running}
-use Rattle.raid_legal.specs.InForce.{InForce, in_force, is_joint, is_over, is_tied, turn, turn_on, turn_end, past, newer, controllers, off_list, survivors}
+use Rattle.raid_legal.specs.InForce.{InForce, in_force, is_over, is_tied, turn, turn_on, turn_end, past, newer, controllers, off_list, survivors}
 use Rattle.raid_legal.specs.Forced.{forced}
 use Rattle.raid_control.specs.Carried.{is_start, carried}
-use Rattle.raid_switch.specs.Force.{grown, without}
+use Rattle.raid_switch.specs.Force.{without}
 use Rattle.raid_serial.proofs.Facts.{Fact, Quiet, some_is, none_is, not_off}
 use Rattle.raid_serial.proofs.Force.{in_force_push}
 use Rattle.raid_serial.proofs.Grants.{has_split}
-use Rattle.raid_serial.proofs.Ordered.{Ordered, ordered_add, all_has, run_begun, own_begin}
+use Rattle.raid_serial.proofs.Ordered.{Ordered, all_has}
 use Rattle.raid_serial.proofs.Real.{lt_true, true_lt, filter_has, has_filter}
 use Rattle.raid_serial.proofs.Tamed.{find_none, keep_txn}
 use Rattle.raid_serial.proofs.Translate.{Has, not_true, cases_true, has_any, any_has, eq_self}
 use Rattle.raid_serial.proofs.Views.{same_tests}
-use Rattle.raid_placed.specs.Placed.{Placeable, Placed, AreKnown}
-use Rattle.raid_placed.specs.Turned.{is_switch, older, turned}
+use Rattle.raid_placed.specs.Placed.{Placed, AreKnown}
+use Rattle.raid_placed.specs.Turned.{older, turned}
 use Rattle.raid_placed.proofs.Sent.{placed_fact, by_facts, forced_placeable}
-use Rattle.raid_placed.proofs.Orderly.{placed_ordered, placed_known, known_running, txn_kept}
-use Rattle.raid_placed.proofs.Growth.{Bounds, placed_bounds, grow_view, is_in_next, alone_next, alone_controllers}
+use Rattle.raid_placed.proofs.Orderly.{placed_ordered, placed_known, known_running, txn_kept, txn_among}
+use Rattle.raid_placed.proofs.Growth.{Bounds, placed_bounds, grow_view, is_in_next, alone_next, alone_controllers, placed_may_note}
 
 -- the entry is a Begin or a Read of the transaction
 abbrev starts : Txn → Noted → Bool
@@ -201,24 +199,8 @@ module _ (w : Workload) (p : List Noted) (o : Ordered p) (known : AreKnown w p) 
   survived_not : (to : Kind) (t : Txn) → has_txn (survivors w p Convert to) t ≡ true → has_txn (off_list w p Convert to) t ≡ false
   survived_not to t k = not_off (has_txn (off_list w p Convert to) t) (txn_kept (λ u. not (has_txn (off_list w p Convert to) u)) (running w p) t k)
 
-  among : (f : Txn → Bool) (ts : List Txn) (t : Txn) → has_txn (filter f ts) t ≡ true → has_txn ts t ≡ true
-  among f [] t k = k
-  among f (x ∷ xs) t k = step (f x) (among f xs t) k
-    where
-      there : (b : Bool) (c d : Bool) → (c ≡ true → d ≡ true) → (b || c) ≡ true → (b || d) ≡ true
-      there true c d r q = refl
-      there false c d r q = r q
-
-      beside : (b d : Bool) → d ≡ true → (b || d) ≡ true
-      beside true d q = refl
-      beside false d q = q
-
-      step : (c : Bool) → (has_txn (filter f xs) t ≡ true → has_txn xs t ≡ true) → has_txn (cond c (x ∷ filter f xs) (filter f xs)) t ≡ true → has_txn (x ∷ xs) t ≡ true
-      step true rest k = there (is_txn t x) (has_txn (filter f xs) t) (has_txn xs t) rest k
-      step false rest k = beside (is_txn t x) (has_txn xs t) (rest k)
-
   survived_runs : (to : Kind) (t : Txn) → has_txn (survivors w p Convert to) t ≡ true → is_running p t ≡ true
-  survived_runs to t k = sym (known_running w p known t) ∙ among (λ u. not (has_txn (off_list w p Convert to) u)) (running w p) t k
+  survived_runs to t k = sym (known_running w p known t) ∙ txn_among (λ u. not (has_txn (off_list w p Convert to) u)) (running w p) t k
 
   generic_step : (k : ℕ) (to : Kind) → Fact w p (SwitchOn k to Generic) → Held (turn_on w p force (length p + 1) to Generic) (add p (SwitchOn k to Generic))
   generic_step k to f = record {
@@ -492,3 +474,9 @@ forced_turned w h k to method l q =
     let p : List Noted = noted h in
     ap (λ f. controllers f (add p (SwitchOn k to method))) (in_force_push w p (SwitchOn k to method))
     ∙ on_each w p (placed_ordered w h l) (placed_known w h l) (placed_held w h l) (placed_bounds w h l) k to method (forced_fact w p (SwitchOn k to method) q)
+
+pub forced_in_order : (w : Workload) (h : List Entry) (k : ℕ) (to : Kind) (method : Method) → Placed w h → forced w (noted h) ≡ Some (SwitchOn k to method) →
+    IsInOrder ((older (in_force w (noted h)) (noted h)).1 ++ next (noted h) (SwitchOn k to method) ∷ [])
+forced_in_order w h k to method l q =
+    (All-head (λ c. MayNote c.0 c.1 (next (noted h) (SwitchOn k to method))) (older (in_force w (noted h)) (noted h)) (newer (noted h) (in_force w (noted h)).next)
+    (placed_may_note w h (SwitchOn k to method) l (forced_placeable w (noted h) (SwitchOn k to method) q))).in_order

@@ -1,41 +1,39 @@
 -- How the views in force grow by an entry, and that each controller may note it.
-use Rattle.std.proofs.Common.{◌≡◌, ℕ, ◌+◌, ◌<◌, ◌≤◌, ◌||◌, Bool, true, false, not, nat_lt, if◌then◌else◌, cond, List, [], ◌∷◌, ◌++◌, length, arith, sym, ◌∙◌, ap, subst, refl, Option, Some, None, length-append}
+use Rattle.std.proofs.Common.{◌≡◌, ℕ, ◌+◌, ◌≤◌, ◌||◌, Bool, true, false, nat_lt, if◌then◌else◌, List, [], ◌∷◌, ◌++◌, length, arith, sym, ◌∙◌, ap, subst, refl, Option, Some, None, length-append}
 use Rattle.std.specs.Prelude.{is_some}
-use Rattle.std.specs.List.{All, filter}
-use Rattle.std.proofs.lemmas.Bool.{true≢false, or_left}
+use Rattle.std.specs.List.{All}
+use Rattle.std.proofs.lemmas.Bool.{true≢false}
 use Rattle.std.proofs.lemmas.Grind.{common_steps}
 use Rattle.std.proofs.lemmas.List.Elements.{All-cons}
 use Rattle.raid_base.specs.declared.names.Txn.{Txn}
 use Rattle.raid_base.specs.declared.entry.Entry.{Entry}
-use Rattle.raid_base.specs.declared.entry.Entry.TheVariants.{Begin, Read, Commit, SwitchOn, SwitchEnd}
+use Rattle.raid_base.specs.declared.entry.Entry.TheVariants.{Read, Commit, SwitchOn, SwitchEnd}
 use Rattle.raid_base.specs.declared.entry.Noted.{Noted}
 use Rattle.raid_base.specs.declared.verdict.Kind.{Kind}
-use Rattle.raid_base.specs.declared.verdict.Method.{Method}
 use Rattle.raid_base.specs.declared.verdict.Method.TheVariants.{Generic, Convert, Suffix}
 use Rattle.raid_base.specs.declared.verdict.Verdict.TheVariants as verdicts
 use Rattle.raid_base.specs.Names.{is_txn, has_txn}
 use Rattle.raid_workload.specs.declared.workload.Workload.{Workload}
-use Rattle.raid_rules.specs.Entries.{is_begin, is_read, is_commit_of}
+use Rattle.raid_rules.specs.Entries.{is_begin, is_read}
 use Rattle.raid_rules.specs.History.{noted, add, next, stamp, has_ended, is_running}
 use Rattle.raid_rules.specs.Last.{acts_by}
-use Rattle.raid_rules.specs.Order.{IsInOrder, IsGranted, MayNote, AgreesOn, is_of}
+use Rattle.raid_rules.specs.Order.{IsInOrder, IsGranted, MayNote, AgreesOn}
 use Rattle.raid_rules.specs.Verdicts.{Question, reading, writing, verdict_of}
 use Rattle.raid_rules.specs.Views.{View, is_in, view_of}
 use Rattle.raid_rules.proofs.Push.{same_txn}
 use Rattle.raid_rules.proofs.ViewsOf.{view_push}
-use Rattle.raid_legal.specs.InForce.{InForce, in_force, is_joint, is_over, turn, turn_on, turn_end, past, newer, controllers, verdict, off_list}
+use Rattle.raid_legal.specs.InForce.{InForce, in_force, is_joint, is_over, turn, turn_end, past, newer, controllers, verdict}
 use Rattle.raid_legal.specs.Forced.{forced}
 use Rattle.raid_conflict.specs.Listed.{Extends}
 use Rattle.raid_conflict.proofs.Extend.{before_last}
-use Rattle.raid_switch.specs.Force.{grown}
-use Rattle.raid_serial.proofs.Facts.{Fact, each_grants, some_is, none_is, not_off}
+use Rattle.raid_switch.specs.Force.{grown, turns_nothing}
+use Rattle.raid_serial.proofs.Facts.{Fact, each_grants, some_is, none_is}
 use Rattle.raid_serial.proofs.Force.{in_force_push}
-use Rattle.raid_serial.proofs.Ordered.{Ordered, ordered_add, all_has}
+use Rattle.raid_serial.proofs.Ordered.{Ordered, ordered_add}
 use Rattle.raid_serial.proofs.Real.{lt_true}
-use Rattle.raid_serial.proofs.Translate.{Has, not_true}
 use Rattle.raid_serial.proofs.Views.{view_in_order, read_fits_view, commit_fits_view}
 use Rattle.raid_placed.specs.Placed.{Placeable, Placed}
-use Rattle.raid_placed.specs.Turned.{is_switch, older}
+use Rattle.raid_placed.specs.Turned.{older}
 use Rattle.raid_placed.proofs.Sent.{placed_fact, by_facts, forced_placeable}
 use Rattle.raid_placed.proofs.Orderly.{placed_ordered}
 
@@ -90,19 +88,19 @@ grow_controllers f p e b =
     ∙ ap (λ cs. (f.kind, view_of f.view p ++ next p e ∷ []) ∷ cs) (grow_newer p e f.next b.low_too)
 
 -- an entry that is no switch's changes nothing else
-turn_same : (w : Workload) (p : List Noted) (f : InForce) (k : ℕ) (e : Entry) → is_switch e ≡ false → turn w p f k e ≡ f
-turn_same w p f k (SwitchOn j to method) q = absurd (true≢false q)
-turn_same w p f k (SwitchEnd j) q = absurd (true≢false q)
+turn_same : (w : Workload) (p : List Noted) (f : InForce) (k : ℕ) (e : Entry) → turns_nothing e ≡ true → turn w p f k e ≡ f
+turn_same w p f k (SwitchOn j to method) q = absurd (true≢false (sym q))
+turn_same w p f k (SwitchEnd j) q = absurd (true≢false (sym q))
 turn_same w p f k other q = refl
 
-pub placed_grow : (w : Workload) (h : List Entry) (e : Entry) → Placed w h → is_switch e ≡ false →
+pub placed_grow : (w : Workload) (h : List Entry) (e : Entry) → Placed w h → turns_nothing e ≡ true →
     controllers (in_force w (add (noted h) e)) (add (noted h) e) ≡ grown (next (noted h) e) (controllers (in_force w (noted h)) (noted h))
 placed_grow w h e l q =
     let p : List Noted = noted h in
     ap (λ f. controllers f (add p e)) (in_force_push w p e ∙ turn_same w p (in_force w p) (length p + 1) e q)
     ∙ grow_controllers (in_force w p) p e (placed_bounds w h l)
 
-pub placed_same : (w : Workload) (p : List Noted) (e : Entry) → is_switch e ≡ false → in_force w (add p e) ≡ in_force w p
+pub placed_same : (w : Workload) (p : List Noted) (e : Entry) → turns_nothing e ≡ true → in_force w (add p e) ≡ in_force w p
 placed_same w p e q = in_force_push w p e ∙ turn_same w p (in_force w p) (length p + 1) e q
 
 -- one controller alone

@@ -1,16 +1,14 @@
 -- Whatever letter the sequencer hears, its history stays placed, and nothing is forced after it.
-use Rattle.std.proofs.Common.{◌≡◌, ℕ, ℤ, zero, suc, ◌+◌, ◌-◌, ◌<◌, ◌||◌, ◌&&◌, ◌==◌, nat_lt, nat_le, Bool, true, false, not, List, [], ◌∷◌, ◌++◌, length, if◌then◌else◌, Option, Some, None, arith, sym, ◌∙◌, ap, subst, refl}
+use Rattle.std.proofs.Common.{◌≡◌, ℕ, zero, suc, ◌+◌, ◌-◌, ◌||◌, ◌&&◌, ◌==◌, nat_lt, nat_le, Bool, true, false, List, [], ◌∷◌, if◌then◌else◌, Option, Some, None, arith, sym, ◌∙◌, ap, subst, refl}
 use Rattle.std.specs.Prelude.{slice_index, slice_set}
-use Rattle.std.specs.Option.{option_map_or}
-use Rattle.std.proofs.lemmas.Bool.{true≢false, and_parts, eqb-true}
+use Rattle.std.proofs.lemmas.Bool.{and_parts, eqb-true}
 use Rattle.std.proofs.lemmas.Grind.{common_steps}
 use Rattle.raid_base.specs.declared.names.Txn.{Txn}
 use Rattle.raid_base.specs.declared.names.Item.{Item}
 use Rattle.raid_base.specs.declared.names.Site.{Site}
 use Rattle.raid_base.specs.declared.request.Request.{Request}
 use Rattle.raid_base.specs.declared.entry.Entry.{Entry}
-use Rattle.raid_base.specs.declared.entry.Entry.TheVariants.{Begin, Read, Wait, Commit, Abort, Ack, SwitchOn, SwitchEnd, Down, Up, Clear}
-use Rattle.raid_base.specs.declared.entry.Act.{Act}
+use Rattle.raid_base.specs.declared.entry.Entry.TheVariants.{Begin, Wait, Commit, Abort, Ack, SwitchOn, SwitchEnd, Down, Up, Clear}
 use Rattle.raid_base.specs.declared.entry.Act.TheVariants as acts
 use Rattle.raid_base.specs.declared.entry.Cause.{Cause}
 use Rattle.raid_base.specs.declared.entry.Cause.TheVariants as causes
@@ -20,8 +18,8 @@ use Rattle.raid_base.specs.declared.verdict.Verdict.TheVariants as verdicts
 use Rattle.raid_base.specs.Sites.{session, site}
 use Rattle.raid_workload.specs.declared.workload.Workload.{Workload}
 use Rattle.raid_workload.specs.Parts.{home}
-use Rattle.raid_rules.specs.History.{noted, add, next, stamp, is_waiting, ends, version}
-use Rattle.raid_rules.specs.Sessions.{source_for, owes, turn_vector, with_session, is_site_up}
+use Rattle.raid_rules.specs.History.{noted, next, stamp, is_waiting, version}
+use Rattle.raid_rules.specs.Sessions.{source_for, owes, turn_vector, is_site_up}
 use Rattle.raid_rules.specs.Verdicts.{reading, writing}
 use Rattle.raid_rules.proofs.Push.{noted_push, vector_push}
 use Rattle.raid_legal.specs.Seen.{vector, is_up, is_locked, sources}
@@ -36,12 +34,12 @@ use Rattle.raid_message.specs.declared.letter.Letter.{Letter}
 use Rattle.raid_serial.proofs.Facts.{some_is, none_is, if_some}
 use Rattle.raid_steps.specs.State.{Turn, Sequencer, opened}
 use Rattle.raid_steps.specs.Fits.{is_to_sequencer, knows_site}
-use Rattle.raid_steps.specs.Sequencer.{so_far, place, place_if, settle, Settles, quiet, more, announced, announce, down_row, leave, leave_again, hello_row, free_row, copied_row, begin_row, read_row, commit_row, end_row, ack_row, site_row, finish, hear_down, is_hello, hear_of_site, hear_sequencer}
-use Rattle.raid_placed.specs.Placed.{Sent, Goes, Placeable, Placed}
+use Rattle.raid_steps.specs.Sequencer.{so_far, place, place_if, settle, Settles, quiet, more, announced, announce, down_row, leave, leave_again, hello_row, free_row, site_row, finish, hear_down, is_hello, hear_of_site, hear_sequencer}
+use Rattle.raid_placed.specs.Placed.{Sent, Goes, Placed}
 use Rattle.raid_placed.proofs.Settled.{place_placed, settle_placed, settle_settles, settle_quiet}
 
 -- the history is placed, and nothing is forced after it
-abbrev Fine : Workload → Turn Sequencer → Type 0
+abbrev pub Fine : Workload → Turn Sequencer → Type 0
 Fine w turn = Placed w turn.state.history × (forced w (so_far turn) ≡ None)
 
 -- the answers are what may be placed
@@ -51,7 +49,7 @@ served_sent w p t x (Some s) (verdicts.Reject why) free q = (free, q)
 served_sent w p t x (Some s) verdicts.Wait free q = (free, q)
 served_sent w p t x (Some s) verdicts.Grant free q = (free, q)
 
-read_sent : (w : Workload) (p : List Noted) (t : Txn) (x : Item) → is_free p t ≡ true → Sent w p (answer_read w p t x)
+pub read_sent : (w : Workload) (p : List Noted) (t : Txn) (x : Item) → is_free p t ≡ true → Sent w p (answer_read w p t x)
 read_sent w p t x free = served_sent w p t x (source_for (sources w p x) (home w t)) (verdict w p (reading t (stamp p t) x)) free refl
 
 waits_sent : (w : Workload) (p : List Noted) (t : Txn) (request : Request) (e : Entry) (a b : Bool) → is_free p t ≡ true → answer_commit w p t request ≡ Some e →
@@ -69,22 +67,22 @@ answered_sent : (w : Workload) (p : List Noted) (t : Txn) (request : Request) (e
 answered_sent w p t request e (Some why) free q r = subst (Sent w p) (some_is _ e r) (free, q ∙ sym r)
 answered_sent w p t request e None free q r = decided_sent w p t request e (verdict w p (writing t (stamp p t) request.writes)) free q r
 
-commit_sent : (w : Workload) (p : List Noted) (t : Txn) (request : Request) (e : Entry) → is_free p t ≡ true → answer_commit w p t request ≡ Some e → Sent w p e
+pub commit_sent : (w : Workload) (p : List Noted) (t : Txn) (request : Request) (e : Entry) → is_free p t ≡ true → answer_commit w p t request ≡ Some e → Sent w p e
 commit_sent w p t request e free q = answered_sent w p t request e (site_refusal w p request) free q q
 
 -- an entry that may be sent is placed where none is forced
-sent_placed : (w : Workload) (ask : ℕ) (turn : Turn Sequencer) (e : Entry) → Fine w turn → Sent w (so_far turn) e → Placed w (place w ask turn e).state.history
+pub sent_placed : (w : Workload) (ask : ℕ) (turn : Turn Sequencer) (e : Entry) → Fine w turn → Sent w (so_far turn) e → Placed w (place w ask turn e).state.history
 sent_placed w ask turn e fine s = place_placed w ask turn e fine.0 (subst (Goes w (so_far turn) e) (sym fine.1) s)
 
-place_if_placed : (w : Workload) (ask : ℕ) (turn : Turn Sequencer) (o : Option Entry) → Fine w turn → ((e : Entry) → o ≡ Some e → Sent w (so_far turn) e) → Placed w (place_if w ask turn o).state.history
+pub place_if_placed : (w : Workload) (ask : ℕ) (turn : Turn Sequencer) (o : Option Entry) → Fine w turn → ((e : Entry) → o ≡ Some e → Sent w (so_far turn) e) → Placed w (place_if w ask turn o).state.history
 place_if_placed w ask turn None fine s = fine.0
 place_if_placed w ask turn (Some e) fine s = sent_placed w ask turn e fine (s e refl)
 
 -- where a test lets it be
-place_when : (w : Workload) (ask : ℕ) (turn : Turn Sequencer) (b : Bool) (e : Entry) → Fine w turn → (b ≡ true → Sent w (so_far turn) e) → Placed w (place_if w ask turn (if b then Some e else None)).state.history
+pub place_when : (w : Workload) (ask : ℕ) (turn : Turn Sequencer) (b : Bool) (e : Entry) → Fine w turn → (b ≡ true → Sent w (so_far turn) e) → Placed w (place_if w ask turn (if b then Some e else None)).state.history
 place_when w ask turn b e fine s = place_if_placed w ask turn (if b then Some e else None) fine (λ x q. (let m = if_some b e x q in subst (Sent w (so_far turn)) m.1 (s m.0)))
 
-free_placed : (w : Workload) (ask : ℕ) (turn : Turn Sequencer) (t : Txn) (o : Option Entry) → Fine w turn → (is_free (so_far turn) t ≡ true → (e : Entry) → o ≡ Some e → Sent w (so_far turn) e) → Placed w (free_row w ask turn t o).state.history
+pub free_placed : (w : Workload) (ask : ℕ) (turn : Turn Sequencer) (t : Txn) (o : Option Entry) → Fine w turn → (is_free (so_far turn) t ≡ true → (e : Entry) → o ≡ Some e → Sent w (so_far turn) e) → Placed w (free_row w ask turn t o).state.history
 free_placed w ask turn t o fine s = step (is_free (so_far turn) t) refl
   where
     step : (b : Bool) → is_free (so_far turn) t ≡ b → Placed w (if b then place_if w ask turn o else turn).state.history
@@ -104,7 +102,7 @@ forced_still w turn e s q =
     ap (λ p. is_up w p s) (noted_push turn.state.history e)
     ∙ ap (λ v. is_site_up v s) (vector_push w.sites (so_far turn) (next (so_far turn) e) ∙ compelled_still w (so_far turn) e (vector w (so_far turn)) (forced_compels w (so_far turn) e q))
 
-settled_still : (w : Workload) (s : Site) (turn last : Turn Sequencer) → Settles w turn last → is_up w (so_far last) s ≡ is_up w (so_far turn) s
+pub settled_still : (w : Workload) (s : Site) (turn last : Turn Sequencer) → Settles w turn last → is_up w (so_far last) s ≡ is_up w (so_far turn) s
 settled_still w s turn last (quiet q) = refl
 settled_still w s turn last (more {e = e} q rest) = settled_still w s (place w 0 turn e) last rest ∙ forced_still w turn e s q
 
@@ -117,14 +115,14 @@ set_index (x ∷ xs) (suc k) = set_index xs k
 downed : (v : List ℕ) (s : Site) → is_site_up (turn_vector v (Down s)) s ≡ false
 downed v s = ap (λ n. nat_lt 0 n) (set_index v (s.0 - 1))
 
-down_not_up : (w : Workload) (turn : Turn Sequencer) (s : Site) → is_up w (so_far (place w 0 turn (Down s))) s ≡ false
+pub down_not_up : (w : Workload) (turn : Turn Sequencer) (s : Site) → is_up w (so_far (place w 0 turn (Down s))) s ≡ false
 down_not_up w turn s =
     ap (λ p. is_up w p s) (noted_push turn.state.history (Down s))
     ∙ ap (λ v. is_site_up v s) (vector_push w.sites (so_far turn) (next (so_far turn) (Down s)))
     ∙ downed (vector w (so_far turn)) s
 
 -- the rows
-leave_fine : (w : Workload) (turn : Turn Sequencer) (s : Site) → Fine w turn → Fine w (leave w turn s) × (is_up w (so_far (leave w turn s)) s ≡ false)
+pub leave_fine : (w : Workload) (turn : Turn Sequencer) (s : Site) → Fine w turn → Fine w (leave w turn s) × (is_up w (so_far (leave w turn s)) s ≡ false)
 leave_fine w turn s fine = step (is_up w (so_far turn) s) refl
   where
     gone : Placed w (place w 0 turn (Down s)).state.history
@@ -134,19 +132,19 @@ leave_fine w turn s fine = step (is_up w (so_far turn) s) refl
     step true q = ((settle_placed w (place w 0 turn (Down s)) gone, settle_quiet w (place w 0 turn (Down s)) gone), settled_still w s (place w 0 turn (Down s)) (settle w (place w 0 turn (Down s))) (settle_settles w (place w 0 turn (Down s)) gone) ∙ down_not_up w turn s)
     step false q = (fine, q)
 
-again_placed : (w : Workload) (turn : Turn Sequencer) (s : Site) (n : ℕ) → Placed w turn.state.history → Placed w (leave_again w turn s n).state.history
+pub again_placed : (w : Workload) (turn : Turn Sequencer) (s : Site) (n : ℕ) → Placed w turn.state.history → Placed w (leave_again w turn s n).state.history
 again_placed w turn s n l = step (nat_le n (announced turn s))
   where
     step : (b : Bool) → Placed w (if b then place w 0 (settle w turn) (Down s) else turn).state.history
     step true = sent_placed w 0 (settle w turn) (Down s) (settle_placed w turn l, settle_quiet w turn l) tt
     step false = l
 
-hello_placed : (w : Workload) (turn : Turn Sequencer) (s : Site) (n : ℕ) → Fine w turn → Placed w (hello_row w turn s n).state.history
+pub hello_placed : (w : Workload) (turn : Turn Sequencer) (s : Site) (n : ℕ) → Fine w turn → Placed w (hello_row w turn s n).state.history
 hello_placed w turn s n fine =
     let left = leave_fine w turn s fine in
     again_placed w (place w 0 (leave w turn s) (Up s n)) s n (sent_placed w 0 (leave w turn s) (Up s n) left.0 left.1)
 
-row_placed : (w : Workload) (turn : Turn Sequencer) (s : Site) (n : ℕ) (message : Message) → Fine w turn → Placed w (site_row w turn s n message).state.history
+pub row_placed : (w : Workload) (turn : Turn Sequencer) (s : Site) (n : ℕ) (message : Message) → Fine w turn → Placed w (site_row w turn s n message).state.history
 row_placed w turn s n letters.Hello fine = hello_placed w turn s n fine
 row_placed w turn s n (letters.Begin t) fine = place_when w 0 turn (may_begin w (so_far turn) t) (Begin t (home w t)) fine (λ q. (refl, q))
 row_placed w turn s n (letters.ReadAsk t ask x) fine = free_placed w ask turn t (Some (answer_read w (so_far turn) t x)) fine (λ free e q. subst (Sent w (so_far turn)) (some_is _ e q) (read_sent w (so_far turn) t x free))
@@ -156,11 +154,11 @@ row_placed w turn s n (letters.Ack t) fine = place_when w 0 turn (owes (so_far t
 row_placed w turn s n (letters.CopyDone x v) fine = place_when w 0 turn (is_locked w (so_far turn) s x && v == version (so_far turn) x) (Clear s x v) fine (λ q. (let m = and_parts (is_locked w (so_far turn) s x) (v == version (so_far turn) x) q in (m.0, eqb-true v (version (so_far turn) x) m.1)))
 row_placed w turn s n other fine = fine.0
 
-down_placed : (w : Workload) (turn : Turn Sequencer) (s : Site) (n : ℕ) → Fine w turn → Placed w (down_row w turn s n).state.history
+pub down_placed : (w : Workload) (turn : Turn Sequencer) (s : Site) (n : ℕ) → Fine w turn → Placed w (down_row w turn s n).state.history
 down_placed w turn s n fine = place_when w 0 (announce turn s n) (is_up w (so_far turn) s && session (vector w (so_far turn)) s == n) (Down s) fine (λ q. tt)
 
 -- the whole step
-finish_fine : (w : Workload) (state : Sequencer) (turn : Turn Sequencer) → Placed w turn.state.history → Fine w (finish w state turn)
+pub finish_fine : (w : Workload) (state : Sequencer) (turn : Turn Sequencer) → Placed w turn.state.history → Fine w (finish w state turn)
 finish_fine w state turn l = (settle_placed w turn l, settle_quiet w turn l)
 
 down_fine : (w : Workload) (state : Sequencer) (message : Message) → Fine w (opened state) → Fine w (hear_down w state message)

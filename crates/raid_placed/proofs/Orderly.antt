@@ -1,8 +1,8 @@
 -- A placed history is in order, its transactions are the workload's, and what follows may follow.
-use Rattle.std.proofs.Common.{◌≡◌, ℤ, arith, inl, inr, ◌||◌, Bool, true, false, not, ◌&&◌, List, [], ◌∷◌, ◌++◌, sym, ◌∙◌, ap, subst, refl}
+use Rattle.std.proofs.Common.{◌≡◌, ℤ, arith, inl, inr, ◌||◌, Bool, true, false, not, List, [], ◌∷◌, sym, ap, subst, refl}
 use Rattle.std.specs.List.{All, filter}
 use Rattle.std.specs.Prelude.{cond}
-use Rattle.std.proofs.lemmas.Bool.{true≢false, and_parts}
+use Rattle.std.proofs.lemmas.Bool.{true≢false}
 use Rattle.std.proofs.lemmas.Grind.{common_steps}
 use Rattle.raid_base.specs.declared.names.Txn.{Txn}
 use Rattle.raid_base.specs.declared.names.Item.{Item}
@@ -12,7 +12,6 @@ use Rattle.raid_base.specs.declared.entry.Noted.{Noted}
 use Rattle.raid_base.specs.Names.{is_txn, has_txn}
 use Rattle.raid_workload.specs.declared.workload.Workload.{Workload}
 use Rattle.raid_workload.specs.Parts.{txns}
-use Rattle.raid_rules.specs.Entries.{is_begin_of}
 use Rattle.raid_rules.specs.History.{noted, add, next, stamp, has_begun, is_running}
 use Rattle.raid_rules.specs.Order.{IsInOrder, IsWhole, Fits}
 use Rattle.raid_rules.specs.Verdicts.{reading, writing}
@@ -59,6 +58,23 @@ txn_kept f (x ∷ xs) t h = kept_step (f x) refl h (txn_kept f xs t)
     kept_step : (b : Bool) → f x ≡ b → has_txn (cond b (x ∷ filter f xs) (filter f xs)) t ≡ true → (has_txn (filter f xs) t ≡ true → f t ≡ true) → f t ≡ true
     kept_step true e h rest = here_step (is_txn t x) refl e rest h
     kept_step false e h rest = rest h
+
+-- and is in the list
+pub txn_among : (f : Txn → Bool) (ts : List Txn) (t : Txn) → has_txn (filter f ts) t ≡ true → has_txn ts t ≡ true
+txn_among f [] t k = k
+txn_among f (x ∷ xs) t k = step (f x) (txn_among f xs t) k
+  where
+    there : (b : Bool) (c d : Bool) → (c ≡ true → d ≡ true) → (b || c) ≡ true → (b || d) ≡ true
+    there true c d r q = refl
+    there false c d r q = r q
+
+    beside : (b d : Bool) → d ≡ true → (b || d) ≡ true
+    beside true d q = refl
+    beside false d q = q
+
+    step : (c : Bool) → (has_txn (filter f xs) t ≡ true → has_txn xs t ≡ true) → has_txn (cond c (x ∷ filter f xs) (filter f xs)) t ≡ true → has_txn (x ∷ xs) t ≡ true
+    step true rest k = there (is_txn t x) (has_txn (filter f xs) t) (has_txn xs t) rest k
+    step false rest k = beside (is_txn t x) (has_txn xs t) (rest k)
 
 pub known_running : (w : Workload) (p : List Noted) → AreKnown w p → (t : Txn) → has_txn (running w p) t ≡ is_running p t
 known_running w p known t =

@@ -1,7 +1,7 @@
 -- A legal history is placed, and what an entry that may be placed says.
-use Rattle.std.proofs.Common.{◌≡◌, ◌+◌, ◌↔◌, inl, inr, Bool, true, false, not, ◌&&◌, ◌||◌, ◌==◌, nat_lt, List, [], ◌∷◌, ◌++◌, sym, ◌∙◌, ap, subst, refl, Option, Some, None}
+use Rattle.std.proofs.Common.{◌≡◌, ◌+◌, ◌↔◌, true, false, not, ◌&&◌, ◌==◌, nat_lt, List, [], ◌∷◌, ◌++◌, sym, subst, refl, Option, Some, None}
 use Rattle.std.specs.Prelude.{find}
-use Rattle.std.proofs.lemmas.Bool.{true≢false, and_parts, eqb-true}
+use Rattle.std.proofs.lemmas.Bool.{and_parts, eqb-true}
 use Rattle.raid_base.specs.declared.names.Txn.{Txn}
 use Rattle.raid_base.specs.declared.entry.Entry.{Entry}
 use Rattle.raid_base.specs.declared.entry.Entry.TheVariants.{Begin, Read, Wait, Commit, Abort, Ack, SwitchOn, SwitchEnd, Down, Up, Clear}
@@ -19,9 +19,9 @@ use Rattle.raid_rules.proofs.Places.{by_last}
 use Rattle.raid_legal.specs.Seen.{sources, is_up, is_locked}
 use Rattle.raid_legal.specs.InForce.{in_force, verdict}
 use Rattle.raid_legal.specs.Forced.{forced, home_down, switch_off, switch_end, switch_on, woken, earliest}
-use Rattle.raid_legal.specs.Legal.{Legal, Allowed, Comes, Free, Aborts, EachSeeing, due, downs, ups, is_free}
-use Rattle.raid_legal.proofs.Push.{each_push, legal_push}
-use Rattle.raid_serial.proofs.Facts.{Fact, Quiet, fact, served_fact, answer_fact, map_none, not_off, some_is, none_is}
+use Rattle.raid_legal.specs.Legal.{Legal, Allowed, Comes, Free, Aborts, EachSeeing, due, ups, is_free}
+use Rattle.raid_legal.proofs.Push.{each_push}
+use Rattle.raid_serial.proofs.Facts.{Fact, Quiet, fact, served_fact, answer_fact, map_none, not_off}
 use Rattle.raid_placed.specs.Placed.{Sent, SentAbort, Goes, Placeable, Placed}
 
 -- what may come may be placed
@@ -100,6 +100,9 @@ module _ (w : Workload) (p : List Noted) where
 
   pub placed_fact : (e : Entry) → Placeable w p e → Fact w p e
   placed_fact e g = goes_fact e (forced w p) refl g
+
+  pub unforced_placeable : (e : Entry) → forced w p ≡ None → Sent w p e → Placeable w p e
+  unforced_placeable e q s = subst (Goes w p e) (sym q) s
 
   pub forced_placeable : (e : Entry) → forced w p ≡ Some e → Placeable w p e
   forced_placeable e q = subst (Goes w p e) (sym q) refl

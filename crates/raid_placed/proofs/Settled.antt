@@ -1,25 +1,26 @@
 -- Placing the forced entries keeps a history placed, and goes on until none is forced.
-use Rattle.std.proofs.Common.{◌≡◌, ℕ, zero, suc, ◌+◌, ◌-◌, ◌*◌, ◌<◌, ◌≤◌, Bool, true, false, List, [], ◌∷◌, ◌++◌, length, if◌then◌else◌, Option, Some, None, arith, sym, ◌∙◌, ap, subst, refl}
-use Rattle.std.specs.Prelude.{filter, is_some}
+use Rattle.std.proofs.Common.{◌≡◌, ℕ, zero, suc, ◌+◌, ◌-◌, ◌*◌, ◌<◌, ◌≤◌, Bool, true, false, List, [], ◌∷◌, ◌++◌, length, if◌then◌else◌, Option, Some, None, arith, sym, subst, refl, ◌∙◌}
+use Rattle.std.specs.Prelude.{filter}
 use Rattle.std.specs.Option.{option_map_or}
 use Rattle.std.proofs.lemmas.Bool.{true≢false}
 use Rattle.std.proofs.lemmas.Grind.{common_steps}
 use Rattle.raid_base.specs.declared.names.Txn.{Txn}
 use Rattle.raid_base.specs.declared.entry.Entry.{Entry}
-use Rattle.raid_base.specs.declared.entry.Entry.TheVariants.{Begin, Read, Wait, Commit, Abort, Ack, SwitchOn, SwitchEnd, Down, Up, Clear}
+use Rattle.raid_base.specs.declared.entry.Entry.TheVariants.{SwitchOn, SwitchEnd}
 use Rattle.raid_base.specs.declared.entry.Noted.{Noted}
 use Rattle.raid_base.specs.declared.verdict.Kind.{Kind}
 use Rattle.raid_base.specs.declared.verdict.Method.{Method}
 use Rattle.raid_base.specs.declared.verdict.Method.TheVariants.{Generic, Convert, Suffix}
 use Rattle.raid_workload.specs.declared.workload.Workload.{Workload}
 use Rattle.raid_workload.specs.Parts.{txns}
-use Rattle.raid_rules.specs.History.{noted, add, next, is_running}
+use Rattle.raid_rules.specs.History.{noted, add, is_running}
 use Rattle.raid_rules.proofs.Push.{noted_push}
 use Rattle.raid_rules.proofs.Places.{by_last}
 use Rattle.raid_legal.specs.Seen.{running}
 use Rattle.raid_legal.specs.InForce.{InForce, in_force, is_joint, turn, turn_on, turn_end}
 use Rattle.raid_legal.specs.Forced.{forced}
 use Rattle.raid_legal.proofs.Left.{Compels, Known, forced_compels, forced_falls}
+use Rattle.raid_serial.proofs.Facts.{some_is, none_is}
 use Rattle.raid_serial.proofs.Force.{in_force_push}
 use Rattle.raid_serial.proofs.Ordered.{run_begun}
 use Rattle.raid_steps.specs.State.{Turn, Sequencer}
@@ -87,7 +88,7 @@ placed_bound w h l =
 pub place_placed : (w : Workload) (ask : ℕ) (turn : Turn Sequencer) (e : Entry) → Placed w turn.state.history → Placeable w (so_far turn) e → Placed w (place w ask turn e).state.history
 place_placed w ask turn e l a = (placed_push w turn.state.history e).1 (l, a)
 
-forced_placed : (w : Workload) (turn : Turn Sequencer) (e : Entry) → Placed w turn.state.history → forced w (so_far turn) ≡ Some e → Placed w (place w 0 turn e).state.history
+pub forced_placed : (w : Workload) (turn : Turn Sequencer) (e : Entry) → Placed w turn.state.history → forced w (so_far turn) ≡ Some e → Placed w (place w 0 turn e).state.history
 forced_placed w turn e l q = place_placed w 0 turn e l (forced_placeable w (so_far turn) e q)
 
 forced_fewer : (w : Workload) (turn : Turn Sequencer) (e : Entry) → Placed w turn.state.history → forced w (so_far turn) ≡ Some e →
@@ -128,3 +129,20 @@ settles_quiet w turn last (more q rest) = settles_quiet w _ last rest
 
 pub settle_quiet : (w : Workload) (turn : Turn Sequencer) → Placed w turn.state.history → forced w (so_far (settle w turn)) ≡ None
 settle_quiet w turn l = settles_quiet w turn (settle w turn) (settle_settles w turn l)
+
+-- there is one way to settle, and it goes step by step
+settles_same : (w : Workload) (turn a b : Turn Sequencer) → Settles w turn a → Settles w turn b → a ≡ b
+settles_same w turn a b (quiet q) (quiet r) = refl
+settles_same w turn a b (quiet q) (more {e = e} r rest) = absurd (none_is e (sym q ∙ r))
+settles_same w turn a b (more {e = e} q rest) (quiet r) = absurd (none_is e (sym r ∙ q))
+settles_same w turn a b (more {e = e} q rest) (more {e = d} r other) =
+    settles_same w (place w 0 turn e) a b rest (subst (λ z. Settles w (place w 0 turn z) b) (some_is d e (sym r ∙ q)) other)
+
+pub settled_is : (w : Workload) (turn last : Turn Sequencer) → Placed w turn.state.history → Settles w turn last → last ≡ settle w turn
+settled_is w turn last l s = settles_same w turn last (settle w turn) s (settle_settles w turn l)
+
+pub settle_done : (w : Workload) (turn : Turn Sequencer) → Placed w turn.state.history → forced w (so_far turn) ≡ None → settle w turn ≡ turn
+settle_done w turn l q = sym (settled_is w turn turn l (quiet q))
+
+pub settle_step : (w : Workload) (turn : Turn Sequencer) (e : Entry) → Placed w turn.state.history → forced w (so_far turn) ≡ Some e → settle w turn ≡ settle w (place w 0 turn e)
+settle_step w turn e l q = sym (settled_is w turn (settle w (place w 0 turn e)) l (more q (settle_settles w (place w 0 turn e) (forced_placed w turn e l q))))

@@ -16,7 +16,7 @@ use Rattle.raid_workload.specs.Parts.{home, txns}
 use Rattle.raid_rules.specs.History.{noted, has_begun, version}
 use Rattle.raid_rules.specs.Sessions.{owes}
 use Rattle.raid_legal.specs.Seen.{running, is_up, is_locked}
-use Rattle.raid_legal.specs.InForce.{InForce, in_force, is_joint}
+use Rattle.raid_legal.specs.InForce.{in_force, is_joint}
 use Rattle.raid_legal.specs.Answers.{answer_read, answer_commit}
 use Rattle.raid_legal.specs.Forced.{forced}
 use Rattle.raid_legal.specs.Legal.{EachSeeing, is_free, may_begin}

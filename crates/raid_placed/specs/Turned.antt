@@ -1,8 +1,6 @@
 -- What a switch's entries make of the controllers in force.
-use Rattle.std.specs.Prelude.{Bool, true, false, List, [], ◌∷◌, ◌++◌}
+use Rattle.std.specs.Prelude.{List, [], ◌∷◌, ◌++◌}
 use Rattle.raid_base.specs.declared.names.Txn.{Txn}
-use Rattle.raid_base.specs.declared.entry.Entry.{Entry}
-use Rattle.raid_base.specs.declared.entry.Entry.TheVariants.{SwitchOn, SwitchEnd}
 use Rattle.raid_base.specs.declared.entry.Noted.{Noted}
 use Rattle.raid_base.specs.declared.verdict.Kind.{Kind}
 use Rattle.raid_base.specs.declared.verdict.Method.{Method}
@@ -11,12 +9,6 @@ use Rattle.raid_rules.specs.Views.{view_of}
 use Rattle.raid_legal.specs.InForce.{InForce}
 use Rattle.raid_control.specs.Carried.{carried}
 use Rattle.raid_switch.specs.Force.{without}
-
--- the entry is a switch's: no other changes what is in force
-abbrev pub is_switch : Entry → Bool
-is_switch (SwitchOn k kind method) = true
-is_switch (SwitchEnd k) = true
-is_switch other = false
 
 -- the controller in force, or the old one of two, with the entries of its view
 abbrev pub older : InForce → List Noted → Kind × List Noted

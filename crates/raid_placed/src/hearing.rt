@@ -8,7 +8,7 @@ ghost use Rattle.raid_rules.specs.History.{noted, add};
 ghost use Rattle.raid_legal.specs.Forced.{forced};
 ghost use Rattle.raid_message.specs.declared.letter.Letter.{Letter};
 ghost use Rattle.raid_steps.specs.State.{Turn, Sequencer};
-ghost use Rattle.raid_steps.specs.Sequencer.{so_far, settle, Settles, hear_sequencer};
+ghost use Rattle.raid_steps.specs.Sequencer.{so_far, place, settle, Settles, hear_sequencer};
 ghost use Rattle.raid_placed.specs.Placed.{Placed, to_force};
 
 /// Each forced entry leaves fewer to be forced, and from the first there are no more than so many: so placing one after the other ends.
@@ -22,6 +22,14 @@ pub fn settling_keeps_placed()
     ensures placed { (w : Workload) (turn : Turn Sequencer) → Placed w turn.state.history → Placed w (settle w turn).state.history }
     ensures all { (w : Workload) (turn : Turn Sequencer) → Placed w turn.state.history → Settles w turn (settle w turn) }
     ensures quiet { (w : Workload) (turn : Turn Sequencer) → Placed w turn.state.history → forced w (so_far (settle w turn)) ≡ None }
+{}
+
+/// Settling goes step by step: it is the turn itself where none is forced, and else what settles the turn with the forced entry placed. So
+/// whatever turn is come to by placing forced entries until there is none is the settled one.
+pub fn settling_goes_step_by_step()
+    ensures done { (w : Workload) (turn : Turn Sequencer) → Placed w turn.state.history → forced w (so_far turn) ≡ None → settle w turn ≡ turn }
+    ensures step { (w : Workload) (turn : Turn Sequencer) (e : Entry) → Placed w turn.state.history → forced w (so_far turn) ≡ Some e → settle w turn ≡ settle w (place w 0 turn e) }
+    ensures one { (w : Workload) (turn last : Turn Sequencer) → Placed w turn.state.history → Settles w turn last → last ≡ settle w turn }
 {}
 
 /// Whatever letter the sequencer hears, of whatever server: its history stays placed, and nothing is forced after it.

@@ -1,6 +1,6 @@
 //! The views of the controllers in force after a placed history, and how they grow.
 
-ghost use Rattle.std.specs.Prelude.{◌≡◌, ℕ, ℤ, true, false, List, [], ◌∷◌, ◌++◌, All, Some};
+ghost use Rattle.std.specs.Prelude.{◌≡◌, ℕ, ℤ, ◌+◌, true, false, List, [], ◌∷◌, ◌++◌, length, All, Some};
 ghost use Rattle.raid_base.specs.declared.names.Txn.{Txn};
 ghost use Rattle.raid_base.specs.Names.{has_txn};
 ghost use Rattle.raid_base.specs.declared.names.Item.{Item};
@@ -10,17 +10,17 @@ ghost use Rattle.raid_base.specs.declared.entry.Entry.TheVariants.{SwitchOn, Swi
 ghost use Rattle.raid_base.specs.declared.verdict.Kind.{Kind};
 ghost use Rattle.raid_base.specs.declared.verdict.Method.{Method};
 ghost use Rattle.raid_workload.specs.declared.workload.Workload.{Workload};
-ghost use Rattle.raid_rules.specs.History.{noted, add, next, stamp, is_running};
+ghost use Rattle.raid_rules.specs.History.{noted, add, next, stamp, has_ended, is_running};
 ghost use Rattle.raid_rules.specs.Order.{IsInOrder, Fits, MayNote};
 ghost use Rattle.raid_rules.specs.Verdicts.{reading, writing};
 ghost use Rattle.raid_rules.specs.Views.{view_of, is_backward, abort_list};
 ghost use Rattle.raid_legal.specs.Seen.{running};
-ghost use Rattle.raid_legal.specs.InForce.{in_force, is_joint, newer, controllers, off_list};
+ghost use Rattle.raid_legal.specs.InForce.{in_force, turn, is_joint, newer, controllers, off_list};
 ghost use Rattle.raid_legal.specs.Forced.{forced};
 ghost use Rattle.raid_conflict.specs.Listed.{Extends};
-ghost use Rattle.raid_switch.specs.Force.{grown};
+ghost use Rattle.raid_switch.specs.Force.{grown, turns_nothing};
 ghost use Rattle.raid_placed.specs.Placed.{Placed, Placeable};
-ghost use Rattle.raid_placed.specs.Turned.{is_switch, older, turned};
+ghost use Rattle.raid_placed.specs.Turned.{older, turned};
 
 /// The views of the controllers in force are in order.
 pub fn placed_views_are_in_order()
@@ -40,10 +40,11 @@ pub fn controllers_may_note()
     ensures graph { (w : Workload) (h : List Entry) (e : Entry) → Placed w h → Placeable w (noted h) e → Extends (noted h) (next (noted h) e) }
 {}
 
-/// An entry that is no switch's leaves in force what is, with each view grown by it.
+/// Each entry turns what is in force; one that is no switch's leaves in force what is, with each view grown by it.
 pub fn views_grow()
-    ensures same { (w : Workload) (p : List Noted) (e : Entry) → is_switch e ≡ false → in_force w (add p e) ≡ in_force w p }
-    ensures grow { (w : Workload) (h : List Entry) (e : Entry) → Placed w h → is_switch e ≡ false → controllers (in_force w (add (noted h) e)) (add (noted h) e) ≡ grown (next (noted h) e) (controllers (in_force w (noted h)) (noted h)) }
+    ensures turn { (w : Workload) (p : List Noted) (e : Entry) → in_force w (add p e) ≡ turn w p (in_force w p) (length p + 1) e }
+    ensures same { (w : Workload) (p : List Noted) (e : Entry) → turns_nothing e ≡ true → in_force w (add p e) ≡ in_force w p }
+    ensures grow { (w : Workload) (h : List Entry) (e : Entry) → Placed w h → turns_nothing e ≡ true → controllers (in_force w (add (noted h) e)) (add (noted h) e) ≡ grown (next (noted h) e) (controllers (in_force w (noted h)) (noted h)) }
 {}
 
 /// A forced SwitchEnd finds two controllers in force, and leaves the second one alone, with its view grown by the entry.
@@ -52,8 +53,9 @@ pub fn switch_ends_leave_the_new_one()
     ensures after { (w : Workload) (h : List Entry) (k : ℕ) → Placed w h → forced w (noted h) ≡ Some (SwitchEnd k) → controllers (in_force w (add (noted h) (SwitchEnd k))) (add (noted h) (SwitchEnd k)) ≡ grown (next (noted h) (SwitchEnd k)) (newer (noted h) (in_force w (noted h)).next) }
 {}
 
-/// A forced SwitchOn finds one controller in force, and makes of it what the method says.
+/// A forced SwitchOn finds one controller in force, whose view it leaves in order, and makes of it what the method says.
 pub fn switches_turn_the_old_one()
+    ensures in_order { (w : Workload) (h : List Entry) (k : ℕ) (to : Kind) (method : Method) → Placed w h → forced w (noted h) ≡ Some (SwitchOn k to method) → IsInOrder ((older (in_force w (noted h)) (noted h)).1 ++ next (noted h) (SwitchOn k to method) ∷ []) }
     ensures alone { (w : Workload) (h : List Entry) (k : ℕ) (to : Kind) (method : Method) → Placed w h → forced w (noted h) ≡ Some (SwitchOn k to method) → controllers (in_force w (noted h)) (noted h) ≡ older (in_force w (noted h)) (noted h) ∷ [] }
     ensures after { (w : Workload) (h : List Entry) (k : ℕ) (to : Kind) (method : Method) → Placed w h → forced w (noted h) ≡ Some (SwitchOn k to method) → controllers (in_force w (add (noted h) (SwitchOn k to method))) (add (noted h) (SwitchOn k to method)) ≡ turned method to (off_list w (noted h) method to) (next (noted h) (SwitchOn k to method)) (older (in_force w (noted h)) (noted h)) }
 {}
@@ -68,4 +70,10 @@ pub fn placed_views_show_who_is_backward()
 pub fn old_views_show_whom_a_switch_aborts()
     ensures before { (w : Workload) (h : List Entry) (k : ℕ) (to : Kind) (method : Method) → Placed w h → forced w (noted h) ≡ Some (SwitchOn k to method) → abort_list method to (older (in_force w (noted h)) (noted h)).1 (running w (noted h)) ≡ off_list w (noted h) method to }
     ensures after { (w : Workload) (h : List Entry) (k : ℕ) (to : Kind) (method : Method) → Placed w h → forced w (noted h) ≡ Some (SwitchOn k to method) → abort_list method to ((older (in_force w (noted h)) (noted h)).1 ++ next (noted h) (SwitchOn k to method) ∷ []) (running w (noted h)) ≡ off_list w (noted h) method to }
+{}
+
+/// Nobody that runs has ended in the old controller's view, before it has noted a SwitchOn and after.
+pub fn old_views_have_no_end_of_who_runs()
+    ensures before { (w : Workload) (h : List Entry) → Placed w h → All (λ t. has_ended (older (in_force w (noted h)) (noted h)).1 t ≡ false) (running w (noted h)) }
+    ensures after { (w : Workload) (h : List Entry) (k : ℕ) (to : Kind) (method : Method) → Placed w h → All (λ t. has_ended ((older (in_force w (noted h)) (noted h)).1 ++ next (noted h) (SwitchOn k to method) ∷ []) t ≡ false) (running w (noted h)) }
 {}
