@@ -1,12 +1,14 @@
 ghost use Rattle.std.specs.Prelude.{◌≡◌, ◌≤◌, not, false, List, [], ◌∷◌, ◌++◌, filter, OnOk, OnErr};
 ghost use Rattle.std.specs.List.{list_any};
-ghost use Rattle.raid_base.specs.declared.entry.Entry.TheVariants.{Down};
+ghost use Rattle.raid_base.specs.declared.names.Txn.{Txn};
+ghost use Rattle.raid_base.specs.declared.request.Request.{Request};
+ghost use Rattle.raid_base.specs.declared.entry.Entry.TheVariants.{Commit, Down};
 ghost use Rattle.raid_steps.specs.State.{Copying};
 ghost use Rattle.raid_steps.specs.Sequencer.{ends_copying};
 ghost use Rattle.raid_copier.specs.Copiers.{Stands, is_to, is_held};
 
-use crate::table::{grow, has, lose_in, place_of, put, take_out};
-use raid_base::{Item, NoMemory, Site};
+use crate::table::{grow, has, lose_in, place_of, put, renew_all, take_out};
+use raid_base::{Item, NoMemory, Pairs, Site, Sites};
 use std::alloc::Global;
 
 /// The copies that are under way, at most one for each target and item.
@@ -67,5 +69,12 @@ impl Copiers {
         ensures { (out : List Copying) → Stands self.old out → Stands self.new (filter (λ c. not (ends_copying (Down site) c)) out) }
     {
         lose_in(&mut self.sources, site);
+    }
+
+    /// A Commit's writes are applied at these sites: no copy of a written item is under way to one of them any longer.
+    pub fn renewed(&mut self, writes: &Pairs, applied: Sites)
+        ensures { (out : List Copying) (t : Txn) (request : Request) → request.writes ≡ writes.now → Stands self.old out → Stands self.new (filter (λ c. not (ends_copying (Commit t request applied) c)) out) }
+    {
+        renew_all(&mut self.sources, writes.as_slice(), applied);
     }
 }

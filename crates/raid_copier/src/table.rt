@@ -1,10 +1,13 @@
 //! A table of sources: one for each item and target, by item, then target.
 
-ghost use Rattle.std.specs.Prelude.{◌≡◌, ◌<◌, ◌≤◌, ◌+◌, ◌*◌, ◌-◌, ◌%◌, ◌==◌, ℕ, Some, None, is_some, vec_len, slice_index_or, OnOk, if◌then◌else◌};
+ghost use Rattle.std.specs.Prelude.{◌≡◌, ◌<◌, ◌≤◌, ◌+◌, ◌*◌, ◌-◌, ◌%◌, ◌==◌, ◌&&◌, ℕ, Some, None, is_some, vec_len, slice_index_or, OnOk, if◌then◌else◌};
+ghost use Rattle.raid_base.specs.declared.names.Site.{Site};
+ghost use Rattle.raid_base.specs.declared.names.Item.{Item};
+ghost use Rattle.raid_base.specs.Names.{is_site, is_item, has_site, holds};
 ghost use Rattle.raid_base.specs.Sites.{site};
 ghost use Rattle.raid_copier.specs.Copiers as words;
 
-use raid_base::{Item, NoMemory, Site};
+use raid_base::{Item, NoMemory, Site, Sites};
 
 /// The place of an item and a target in the table.
 pub fn place_of(target: Site, item: Item) -> usize
@@ -71,5 +74,34 @@ pub fn lose_in(table: &mut Vec<Option<Site>>, lost: Site)
 {
     for k in 0..table.len() {
         table[k] = left(table[k], (k % 8) as u8 + 1, lost);
+    }
+}
+
+/// Takes out the source of the item's copy to the target, where the target is one of the sites.
+fn renew_at(table: &mut Vec<Option<Site>>, item: Item, applied: Sites, target: Site)
+    requires least { 1 ≤ target.0 }
+    requires most { target.0 ≤ 8 }
+    ensures { (s : Site) (x : Item) → 1 ≤ s.0 → s.0 ≤ 8 → slice_index_or table.new.items (words.place_of s x) None ≡ (if (is_site target s && is_item x item) && has_site applied target then None else slice_index_or table.old.items (words.place_of s x) None) }
+{
+    if applied.contains(target) {
+        take_out(table, place_of(target, item));
+    }
+}
+
+/// Takes out the sources of the item's copies to these sites.
+fn renew(table: &mut Vec<Option<Site>>, item: Item, applied: Sites)
+    ensures { (s : Site) (x : Item) → 1 ≤ s.0 → s.0 ≤ 8 → slice_index_or table.new.items (words.place_of s x) None ≡ (if is_item x item && has_site applied s then None else slice_index_or table.old.items (words.place_of s x) None) }
+{
+    for number in 1..9 {
+        renew_at(table, item, applied, Site(number));
+    }
+}
+
+/// Takes out the sources of the written items' copies to these sites.
+pub fn renew_all(table: &mut Vec<Option<Site>>, writes: &[(Item, i64)], applied: Sites)
+    ensures { (s : Site) (x : Item) → 1 ≤ s.0 → s.0 ≤ 8 → slice_index_or table.new.items (words.place_of s x) None ≡ (if holds x writes.now && has_site applied s then None else slice_index_or table.old.items (words.place_of s x) None) }
+{
+    for (item, _) in writes {
+        renew(table, *item, applied);
     }
 }

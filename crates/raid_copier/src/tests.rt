@@ -1,7 +1,7 @@
 ghost use Rattle.std.specs.Prelude.{◌≤◌};
 
 use crate::Copiers;
-use raid_base::{Item, NoMemory, Site};
+use raid_base::{Item, NoMemory, Pairs, Site, Sites};
 
 const X: Item = Item(0);
 
@@ -51,5 +51,27 @@ fn copies_to_a_lost_site_and_from_it_are_forgotten(rt: HostRuntime) -> Result<()
     }
     copiers.lost(Site(1));
     assert!(rt; !copiers.is_out(Site(2), X));
+    Ok(())
+}
+
+#[test]
+fn copies_that_a_commit_renews_are_forgotten(rt: HostRuntime) -> Result<(), NoMemory> {
+    let mut copiers = Copiers::new(rt.alloc());
+    for (target, item) in [(1, X), (2, X), (3, X), (1, Y), (2, FAR)] {
+        assert!(rt; ask(&mut copiers, Site(target), item, Site(8))?);
+    }
+    let mut writes = Pairs::new(rt.alloc());
+    writes.push((X, 7))?;
+    writes.push((FAR, 7))?;
+    copiers.renewed(&writes, Sites(0b10).with(Site(1)));
+    for (target, item, out) in [
+        (1, X, false),
+        (2, X, false),
+        (3, X, true),
+        (1, Y, true),
+        (2, FAR, false),
+    ] {
+        assert_eq!(rt; copiers.is_out(Site(target), item), out);
+    }
     Ok(())
 }
