@@ -37,4 +37,3 @@ pub fn copied(alloc: Global, bytes: &[u8]) -> Result<Bytes, NoMemory>
     text.push_all(bytes)?;
     Ok(text)
 }
-
