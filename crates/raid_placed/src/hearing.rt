@@ -1,6 +1,6 @@
 //! What the sequencer's steps leave of a placed history.
 
-ghost use Rattle.std.specs.Prelude.{◌≡◌, ℕ, ◌+◌, ◌*◌, ◌<◌, ◌≤◌, List, length, Some, None};
+ghost use Rattle.std.specs.Prelude.{◌≡◌, ℕ, ◌+◌, ◌*◌, ◌<◌, ◌≤◌, List, [], length, Some, None};
 ghost use Rattle.raid_base.specs.declared.entry.Entry.{Entry};
 ghost use Rattle.raid_workload.specs.declared.workload.Workload.{Workload};
 ghost use Rattle.raid_workload.specs.Parts.{txns};
@@ -10,6 +10,12 @@ ghost use Rattle.raid_message.specs.declared.letter.Letter.{Letter};
 ghost use Rattle.raid_steps.specs.State.{Turn, Sequencer};
 ghost use Rattle.raid_steps.specs.Sequencer.{so_far, place, settle, Settles, hear_sequencer};
 ghost use Rattle.raid_placed.specs.Placed.{Placed, to_force};
+
+/// Before the first letter the history is placed, and nothing is forced after it.
+pub fn openings_are_placed()
+    ensures placed { (w : Workload) → Placed w [] }
+    ensures quiet { (w : Workload) → forced w (noted []) ≡ None }
+{}
 
 /// Each forced entry leaves fewer to be forced, and from the first there are no more than so many: so placing one after the other ends.
 pub fn forced_entries_run_out()

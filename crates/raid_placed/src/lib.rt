@@ -11,7 +11,8 @@ mod history;
 mod views;
 
 pub use hearing::{
-    forced_entries_run_out, hearing_keeps_placed, settling_goes_step_by_step, settling_keeps_placed,
+    forced_entries_run_out, hearing_keeps_placed, openings_are_placed, settling_goes_step_by_step,
+    settling_keeps_placed,
 };
 pub use history::{
     legal_are_placed, placeable_may_follow, placeable_names_are_known, placed_are_in_order,
