@@ -1,6 +1,6 @@
 -- Where an action closes a cycle.
 use Rattle.std.proofs.Common.{◌≡◌, ◌↔◌, ◌⊎◌, inl, inr, ⊎_elim, ℕ, ℤ, ◌+◌, ◌<◌, ◌≤◌, max, Bool, true, false, ◌&&◌, List, [], ◌∷◌, fold, arith, sym, ◌∙◌, ap, subst, refl}
-use Rattle.std.specs.List.{list_any, All}
+use Rattle.std.specs.List.{list_any, All, AllPairs}
 use Rattle.std.proofs.lemmas.Bool.{true≢false, cases_Bool, and_parts, and_from, or_left, eqb-true}
 use Rattle.std.proofs.lemmas.List.Folds.{Any-from_list_any, list_any_at}
 use Rattle.std.proofs.lemmas.List.Elements.{All-cons}
@@ -25,7 +25,7 @@ use Rattle.raid_rules.proofs.Edges.{same_item, path_map, leads_iff}
 use Rattle.raid_rules.proofs.Paths.{join}
 use Rattle.raid_rules.proofs.Last.{edge_stays, edge_new, path_last}
 use Rattle.raid_conflict.specs.declared.tables.Tables.{Tables}
-use Rattle.raid_conflict.specs.Tables.{chain_at, mark, all_actions, Stands}
+use Rattle.raid_conflict.specs.Tables.{chain_at, mark, all_actions, Tells}
 use Rattle.raid_conflict.specs.Search.{Step, closes, is_found, is_writer_found}
 use Rattle.raid_conflict.specs.Listed.{reaches_before}
 use Rattle.raid_rules.specs.Conflict.{reached as reachable}
@@ -133,7 +133,7 @@ module _ (view : List Noted) (q : Question) (k : ℕ) where
       record { first = f.1; item = c.0; in_first = (f.0, f.2, f.3); clashing = c.1; differ = other; stays = goes }
 
   -- what is found and has an action against the question
-  module _ (t : Tables) (s : Stands t view) (found : List Txn) where
+  module _ (t : Tables) (s : Tells t view) (found : List Txn) where
     writer_all : (x : Item) → is_writer_found found (chain_at t.items.items x.0) ≡ list_any (λ a. is_item x a.item && (a.writes && has_txn found a.by)) (all_actions view)
     writer_all x = ap (is_writer_found found) (s.on x) ∙ any_filter (λ a. a.writes && has_txn found a.by) (λ a. is_item x a.item) (all_actions view)
 
@@ -141,7 +141,7 @@ module _ (view : List Noted) (q : Question) (k : ℕ) where
     found_all x = ap (is_found found) (s.on x) ∙ any_filter (λ a. has_txn found a.by) (λ a. is_item x a.item) (all_actions view)
 
 -- who is found and hits is what closes the cycle
-closes_hit : (view : List Noted) (q : Question) (t : Tables) (s : Stands t view) (found : List Txn) (u : Txn) → has_txn found u ≡ true → hits view q 0 u ≡ true → closes t found q ≡ true
+closes_hit : (view : List Noted) (q : Question) (t : Tables) (s : Tells t view) (found : List Txn) (u : Txn) → has_txn found u ≡ true → hits view q 0 u ≡ true → closes t found q ≡ true
 closes_hit view (reading w k x) t s found u i h =
     or_right (has_txn found w) _ (writer_all view (reading w k x) 0 t s found x
     ∙ any_mono (λ a. is_txn u a.by && (is_item x a.item && a.writes)) (λ a. is_item x a.item && (a.writes && has_txn found a.by))
@@ -159,7 +159,7 @@ closes_hit view (writing w k writes) t s found u i h =
     (found_all view (writing w k writes) 0 t s found (g.0).0 ∙ f.2 (λ b. is_item (g.0).0 b.item && has_txn found b.by) (and_from _ _ g.1 here)))
 
 -- and the other way round
-hit_closes : (view : List Noted) (q : Question) (t : Tables) (s : Stands t view) (found : List Txn) → closes t found q ≡ true → (has_txn found (asker q) ≡ true) ⊎ ((u : Txn) × (has_txn found u ≡ true) × (hits view q 0 u ≡ true))
+hit_closes : (view : List Noted) (q : Question) (t : Tables) (s : Tells t view) (found : List Txn) → closes t found q ≡ true → (has_txn found (asker q) ≡ true) ⊎ ((u : Txn) × (has_txn found u ≡ true) × (hits view q 0 u ≡ true))
 hit_closes view (reading w k x) t s found c = elim (cases_Bool (has_txn found w)) [
   | inl e ↦ inl e
   | inr e ↦ let f = any_find (λ a. is_item x a.item && (a.writes && has_txn found a.by)) (all_actions view) (sym (writer_all view (reading w k x) 0 t s found x) ∙ grind (arith, common_steps, c, e)) in
@@ -195,8 +195,8 @@ no_abort (reading t k x) w = refl
 no_abort (writing t k writes) w = refl
 
 -- the answer of a search is that of the list
-pub closes_is : (view : List Noted) (q : Question) (t : Tables) (s : Stands t view) (found : List Txn) → ((v : Txn) → (has_txn found v ≡ true) ↔ Path (Step t) (asker q) v) → has_ended view (asker q) ≡ false → closes t found q ≡ closes_cycle view q
-closes_is view q t s found reached goes_on = both_ways _ _ there back
+pub closes_is : (view : List Noted) (q : Question) (t : Tables) (s : Tells t view) (up : AllPairs (λ m n. m.at < n.at) view) (found : List Txn) → ((v : Txn) → (has_txn found v ≡ true) ↔ Path (Step t) (asker q) v) → has_ended view (asker q) ≡ false → closes t found q ≡ closes_cycle view q
+closes_is view q t s up found reached goes_on = both_ways _ _ there back
   where
     k : ℕ
     k = last_number view + 1
@@ -208,10 +208,10 @@ closes_is view q t s found reached goes_on = both_ways _ _ there back
     goes = not_aborted view u goes_on
 
     to_path : (v : Txn) → has_txn found v ≡ true → Path (Edge view) u v
-    to_path v i = (leads_iff view u v).0 ((steps_lead t view s u v).0 ((reached v).0 i))
+    to_path v i = (leads_iff view u v).0 ((steps_lead t view s up u v).0 ((reached v).0 i))
 
     of_path : (v : Txn) → Path (Edge view) u v → has_txn found v ≡ true
-    of_path v p = (reached v).1 ((steps_lead t view s u v).1 ((leads_iff view u v).1 p))
+    of_path v p = (reached v).1 ((steps_lead t view s up u v).1 ((leads_iff view u v).1 p))
 
     kept : (v : Txn) → has_txn found v ≡ true → Path (Edge (with_action view q)) u v
     kept v i = path_map (edge_stays view (as_noted k q) (no_abort q)) (to_path v i)
@@ -242,8 +242,8 @@ closes_is view q t s found reached goes_on = both_ways _ _ there back
         (path_last view (as_noted k q) u (asker_acts q) (below_next view) u u ((leads_iff (with_action view q) u u).0 l))
 
 -- the least stamp that is reached
-pub before_is : (view : List Noted) (t : Tables) (s : Stands t view) (found : List Txn) (u : Txn) (before : ℕ) → ((v : Txn) → (has_txn found v ≡ true) ↔ Path (Step t) u v) → list_any (λ v. nat_lt (mark t v).stamp before) found ≡ reaches_before view u before
-before_is view t s found u before reached =
+pub before_is : (view : List Noted) (t : Tables) (s : Tells t view) (up : AllPairs (λ m n. m.at < n.at) view) (found : List Txn) (u : Txn) (before : ℕ) → ((v : Txn) → (has_txn found v ≡ true) ↔ Path (Step t) u v) → list_any (λ v. nat_lt (mark t v).stamp before) found ≡ reaches_before view u before
+before_is view t s up found u before reached =
     any_congr (λ v. nat_lt (mark t v).stamp before) (λ v. nat_lt (stamp view v) before) (λ v. ap (λ k. nat_lt k before) (s.stamps v)) found
     ∙ any_same (λ v. nat_lt (stamp view v) before) found (reachable (edges view) u)
-    (λ v. both_ways _ _ (λ i. (steps_lead t view s u v).0 ((reached v).0 i)) (λ l. (reached v).1 ((steps_lead t view s u v).1 l)))
+    (λ v. both_ways _ _ (λ i. (steps_lead t view s up u v).0 ((reached v).0 i)) (λ l. (reached v).1 ((steps_lead t view s up u v).1 l)))

@@ -1,5 +1,5 @@
 -- Steps of a search over the tables.
-use Rattle.std.specs.Prelude.{◌≡◌, nat_lt, Bool, true, not, ◌&&◌, ◌||◌, List, length}
+use Rattle.std.specs.Prelude.{◌≡◌, ℕ, nat_lt, Bool, true, not, ◌&&◌, ◌||◌, List, [], ◌∷◌, ◌++◌, fold, length, if◌then◌else◌}
 use Rattle.std.specs.List.{list_any}
 use Rattle.raid_base.specs.declared.names.Txn.{Txn}
 use Rattle.raid_base.specs.Names.{is_txn, has_txn}
@@ -17,9 +17,13 @@ is_against t a b = precedes a b && (not (mark t b.by).aborted && nat_lt b.by.0 (
 abbrev pub is_after : Tables → Action → List Action → Txn → Bool
 is_after t a others v = list_any (λ b. is_against t a b && is_txn v b.by) others
 
--- one of these actions has such an action of v on its item
+-- the actions at the end of a list that all have larger numbers than this one
+abbrev pub latest : ℕ → List Action → List Action
+latest at actions = fold (λ late b. if nat_lt at b.at then late ++ b ∷ [] else []) [] actions
+
+-- one of these actions has such an action of v at the end of the chain of its item
 abbrev pub leads_on : Tables → List Action → Txn → Bool
-leads_on t actions v = list_any (λ a. is_after t a (chain_at t.items.items a.item.0) v) actions
+leads_on t actions v = list_any (λ a. is_after t a (latest a.at (chain_at t.items.items a.item.0)) v) actions
 
 -- u isn't aborted, and one of its actions leads to v
 abbrev pub is_step : Tables → Txn → Txn → Bool
