@@ -26,12 +26,12 @@ use Rattle.raid_rules.proofs.Paths.{join}
 use Rattle.raid_rules.proofs.Last.{edge_stays, edge_new, path_last}
 use Rattle.raid_conflict.specs.declared.tables.Tables.{Tables}
 use Rattle.raid_conflict.specs.Tables.{chain_at, mark, all_actions, Tells}
-use Rattle.raid_conflict.specs.Search.{Step, closes, is_found, is_writer_found}
+use Rattle.raid_conflict.specs.Search.{Step, closes, has_acted, has_written}
 use Rattle.raid_conflict.specs.Listed.{reaches_before}
 use Rattle.raid_rules.specs.Conflict.{reached as reachable}
 use Rattle.std.specs.Prelude.{nat_lt}
 use Rattle.raid_rules.specs.History.{stamp}
-use Rattle.raid_conflict.proofs.Lists.{any_same}
+use Rattle.raid_conflict.proofs.Lists.{any_same, any_swap, any_of}
 use Rattle.raid_conflict.proofs.Lists.{any_filter, any_map, any_flat, any_congr, both_ways, from_any}
 use Rattle.raid_conflict.proofs.Steps.{steps_lead}
 
@@ -134,11 +134,21 @@ module _ (view : List Noted) (q : Question) (k : ℕ) where
 
   -- what is found and has an action against the question
   module _ (t : Tables) (s : Tells t view) (found : List Txn) where
-    writer_all : (x : Item) → is_writer_found found (chain_at t.items.items x.0) ≡ list_any (λ a. is_item x a.item && (a.writes && has_txn found a.by)) (all_actions view)
-    writer_all x = ap (is_writer_found found) (s.on x) ∙ any_filter (λ a. a.writes && has_txn found a.by) (λ a. is_item x a.item) (all_actions view)
+    writer_all : (x : Item) → list_any (has_written t x) found ≡ list_any (λ a. is_item x a.item && (a.writes && has_txn found a.by)) (all_actions view)
+    writer_all x =
+        any_congr (has_written t x) (λ v. list_any (λ a. is_txn v a.by && (a.writes && is_item x a.item)) (all_actions view))
+        (λ v. ap (list_any (λ a. a.writes && is_item x a.item)) (s.own v) ∙ any_filter (λ a. a.writes && is_item x a.item) (λ a. is_txn v a.by) (all_actions view)) found
+        ∙ any_swap (λ v a. is_txn v a.by && (a.writes && is_item x a.item)) found (all_actions view)
+        ∙ any_congr (λ a. list_any (λ v. is_txn v a.by && (a.writes && is_item x a.item)) found) (λ a. is_item x a.item && (a.writes && has_txn found a.by))
+        (λ a. any_of found a.by (a.writes && is_item x a.item) ∙ grind (arith, common_steps)) (all_actions view)
 
-    found_all : (x : Item) → is_found found (chain_at t.items.items x.0) ≡ list_any (λ a. is_item x a.item && has_txn found a.by) (all_actions view)
-    found_all x = ap (is_found found) (s.on x) ∙ any_filter (λ a. has_txn found a.by) (λ a. is_item x a.item) (all_actions view)
+    found_all : (x : Item) → list_any (has_acted t x) found ≡ list_any (λ a. is_item x a.item && has_txn found a.by) (all_actions view)
+    found_all x =
+        any_congr (has_acted t x) (λ v. list_any (λ a. is_txn v a.by && is_item x a.item) (all_actions view))
+        (λ v. ap (list_any (λ a. is_item x a.item)) (s.own v) ∙ any_filter (λ a. is_item x a.item) (λ a. is_txn v a.by) (all_actions view)) found
+        ∙ any_swap (λ v a. is_txn v a.by && is_item x a.item) found (all_actions view)
+        ∙ any_congr (λ a. list_any (λ v. is_txn v a.by && is_item x a.item) found) (λ a. is_item x a.item && has_txn found a.by)
+        (λ a. any_of found a.by (is_item x a.item)) (all_actions view)
 
 -- who is found and hits is what closes the cycle
 closes_hit : (view : List Noted) (q : Question) (t : Tables) (s : Tells t view) (found : List Txn) (u : Txn) → has_txn found u ≡ true → hits view q 0 u ≡ true → closes t found q ≡ true
@@ -155,7 +165,7 @@ closes_hit view (writing w k writes) t s found u i h =
     let here : has_txn found a.by ≡ true = subst (λ z. has_txn found z ≡ true) (sym (same_txn a.by u p.0)) i in
     let g = any_find (λ (p : Item × ℤ). is_item p.0 a.item) writes p.1 in
     or_right (has_txn found w) _
-    (g.2 (λ p. is_found found (chain_at t.items.items p.0.0))
+    (g.2 (λ p. list_any (has_acted t p.0) found)
     (found_all view (writing w k writes) 0 t s found (g.0).0 ∙ f.2 (λ b. is_item (g.0).0 b.item && has_txn found b.by) (and_from _ _ g.1 here)))
 
 -- and the other way round
@@ -170,7 +180,7 @@ hit_closes view (reading w k x) t s found c = elim (cases_Bool (has_txn found w)
 ]
 hit_closes view (writing w k writes) t s found c = elim (cases_Bool (has_txn found w)) [
   | inl e ↦ inl e
-  | inr e ↦ let g = any_find (λ (p : Item × ℤ). is_found found (chain_at t.items.items p.0.0)) writes (grind (arith, common_steps, c, e)) in
+  | inr e ↦ let g = any_find (λ (p : Item × ℤ). list_any (has_acted t p.0) found) writes (grind (arith, common_steps, c, e)) in
       let y : Item = (g.0).0 in
       let f = any_find (λ a. is_item y a.item && has_txn found a.by) (all_actions view) (sym (found_all view (writing w k writes) 0 t s found y) ∙ g.1) in
       let a : Action = f.0 in
