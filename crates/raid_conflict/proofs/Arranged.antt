@@ -20,7 +20,7 @@ use Rattle.raid_rules.proofs.Listing.{any_find, left_stuck, arranged_order}
 use Rattle.raid_rules.proofs.Cycle.{cycle_map}
 use Rattle.raid_conflict.specs.declared.tables.Tables.{Tables}
 use Rattle.raid_conflict.specs.Found.{is_marked}
-use Rattle.raid_conflict.specs.Tables.{chain_at, mark, all_actions, Stands}
+use Rattle.raid_conflict.specs.Tables.{chain_at, mark, all_actions, Tells}
 use Rattle.raid_conflict.specs.Arrange.{IsLeft, is_ahead, is_behind, waits, is_ahead_of, is_kept_by, Joined}
 use Rattle.raid_conflict.proofs.Lists.{any_filter, both_ways}
 use Rattle.raid_conflict.proofs.Steps.{edge_to, edge_from, pair_all}
@@ -28,7 +28,7 @@ use Rattle.raid_conflict.proofs.Steps.{edge_to, edge_from, pair_all}
 self_txn : (t : Txn) → is_txn t t ≡ true
 self_txn t = eq_self t.0 t.0 refl
 
-module _ (t : Tables) (view : List Noted) (s : Stands t view) where
+module _ (t : Tables) (view : List Noted) (s : Tells t view) where
   -- the action is one of the view
   abbrev Acts : Action → Type 0
   Acts a = (g : Action → Bool) → g a ≡ true → list_any g (all_actions view) ≡ true
@@ -179,7 +179,7 @@ pub left_is : (all : List Txn) (left : List Bool) (listed : List Txn) → IsLeft
 left_is all left listed l = find_members (λ t. is_marked left t) (out listed) all (λ x i. l x ∙ ap (λ b. b && not (has_txn listed x)) i)
 
 -- the first that is next
-pub next_is : (t : Tables) (view : List Noted) (s : Stands t view) (all : List Txn) (left : List Bool) (listed : List Txn) → IsLeft all left listed →
+pub next_is : (t : Tables) (view : List Noted) (s : Tells t view) (all : List Txn) (left : List Bool) (listed : List Txn) → IsLeft all left listed →
     find (λ u. is_marked left u && not (waits t left u)) all ≡ find (is_next (edges view) all listed) all
 next_is t view s all left listed l =
     find_members (λ u. is_marked left u && not (waits t left u)) (is_next (edges view) all listed) all
@@ -191,7 +191,7 @@ pub left_less : (all : List Txn) (left after : List Bool) (listed : List Txn) (u
 left_less all left after listed u l h t = grind (arith, common_steps, l t, h t, list_any-append (is_txn t) listed (u ∷ []))
 
 -- all that are left wait, where one is left
-pub all_wait : (t : Tables) (view : List Noted) (s : Stands t view) (left : List Bool) (listed : List Txn) (u : Txn) → listed ≡ listing (edges view) (committed view) → IsLeft (committed view) left listed →
+pub all_wait : (t : Tables) (view : List Noted) (s : Tells t view) (left : List Bool) (listed : List Txn) (u : Txn) → listed ≡ listing (edges view) (committed view) → IsLeft (committed view) left listed →
     find (λ t. is_marked left t) (committed view) ≡ Some u → (v : Txn) → is_marked left v ≡ true → waits t left v ≡ true
 all_wait t view s left listed u is l e v m =
     let q = and_parts (has_txn (committed view) v) (not (has_txn listed v)) (sym (l v) ∙ m) in
@@ -203,7 +203,7 @@ pub whole_order : (view : List Noted) (left : List Bool) (listed : List Txn) →
     find (λ t. is_marked left t) (committed view) ≡ None → IsOrderOf view (Whole listed)
 whole_order view left listed is l e = arranged_order view (Whole listed) (is, none_out listed (committed view) (sym (left_is (committed view) left listed l) ∙ e))
 
-pub cyclic_order : (t : Tables) (view : List Noted) (s : Stands t view) (left : List Bool) (listed cycle : List Txn) → IsLeft (committed view) left listed → IsCycle (Joined t left) cycle → IsOrderOf view (Cyclic cycle)
+pub cyclic_order : (t : Tables) (view : List Noted) (s : Tells t view) (left : List Bool) (listed cycle : List Txn) → IsLeft (committed view) left listed → IsCycle (Joined t left) cycle → IsOrderOf view (Cyclic cycle)
 cyclic_order t view s left listed cycle l c =
     arranged_order view (Cyclic cycle)
     (cycle_map (Joined t left) (Joins (edges view) (committed view))

@@ -1,6 +1,6 @@
 -- Where an action closes a cycle.
 use Rattle.std.proofs.Common.{◌≡◌, ◌↔◌, ◌⊎◌, inl, inr, ⊎_elim, ℕ, ℤ, ◌+◌, ◌<◌, ◌≤◌, max, Bool, true, false, ◌&&◌, List, [], ◌∷◌, fold, arith, sym, ◌∙◌, ap, subst, refl}
-use Rattle.std.specs.List.{list_any, All}
+use Rattle.std.specs.List.{list_any, All, AllPairs}
 use Rattle.std.proofs.lemmas.Bool.{true≢false, cases_Bool, and_parts, and_from, or_left, eqb-true}
 use Rattle.std.proofs.lemmas.List.Folds.{Any-from_list_any, list_any_at}
 use Rattle.std.proofs.lemmas.List.Elements.{All-cons}
@@ -25,13 +25,13 @@ use Rattle.raid_rules.proofs.Edges.{same_item, path_map, leads_iff}
 use Rattle.raid_rules.proofs.Paths.{join}
 use Rattle.raid_rules.proofs.Last.{edge_stays, edge_new, path_last}
 use Rattle.raid_conflict.specs.declared.tables.Tables.{Tables}
-use Rattle.raid_conflict.specs.Tables.{chain_at, mark, all_actions, Stands}
-use Rattle.raid_conflict.specs.Search.{Step, closes, is_found, is_writer_found}
+use Rattle.raid_conflict.specs.Tables.{chain_at, mark, all_actions, Tells}
+use Rattle.raid_conflict.specs.Search.{Step, closes, has_acted, has_written}
 use Rattle.raid_conflict.specs.Listed.{reaches_before}
 use Rattle.raid_rules.specs.Conflict.{reached as reachable}
 use Rattle.std.specs.Prelude.{nat_lt}
 use Rattle.raid_rules.specs.History.{stamp}
-use Rattle.raid_conflict.proofs.Lists.{any_same}
+use Rattle.raid_conflict.proofs.Lists.{any_same, any_swap, any_of}
 use Rattle.raid_conflict.proofs.Lists.{any_filter, any_map, any_flat, any_congr, both_ways, from_any}
 use Rattle.raid_conflict.proofs.Steps.{steps_lead}
 
@@ -133,15 +133,25 @@ module _ (view : List Noted) (q : Question) (k : ℕ) where
       record { first = f.1; item = c.0; in_first = (f.0, f.2, f.3); clashing = c.1; differ = other; stays = goes }
 
   -- what is found and has an action against the question
-  module _ (t : Tables) (s : Stands t view) (found : List Txn) where
-    writer_all : (x : Item) → is_writer_found found (chain_at t.items.items x.0) ≡ list_any (λ a. is_item x a.item && (a.writes && has_txn found a.by)) (all_actions view)
-    writer_all x = ap (is_writer_found found) (s.on x) ∙ any_filter (λ a. a.writes && has_txn found a.by) (λ a. is_item x a.item) (all_actions view)
+  module _ (t : Tables) (s : Tells t view) (found : List Txn) where
+    writer_all : (x : Item) → list_any (has_written t x) found ≡ list_any (λ a. is_item x a.item && (a.writes && has_txn found a.by)) (all_actions view)
+    writer_all x =
+        any_congr (has_written t x) (λ v. list_any (λ a. is_txn v a.by && (a.writes && is_item x a.item)) (all_actions view))
+        (λ v. ap (list_any (λ a. a.writes && is_item x a.item)) (s.own v) ∙ any_filter (λ a. a.writes && is_item x a.item) (λ a. is_txn v a.by) (all_actions view)) found
+        ∙ any_swap (λ v a. is_txn v a.by && (a.writes && is_item x a.item)) found (all_actions view)
+        ∙ any_congr (λ a. list_any (λ v. is_txn v a.by && (a.writes && is_item x a.item)) found) (λ a. is_item x a.item && (a.writes && has_txn found a.by))
+        (λ a. any_of found a.by (a.writes && is_item x a.item) ∙ grind (arith, common_steps)) (all_actions view)
 
-    found_all : (x : Item) → is_found found (chain_at t.items.items x.0) ≡ list_any (λ a. is_item x a.item && has_txn found a.by) (all_actions view)
-    found_all x = ap (is_found found) (s.on x) ∙ any_filter (λ a. has_txn found a.by) (λ a. is_item x a.item) (all_actions view)
+    found_all : (x : Item) → list_any (has_acted t x) found ≡ list_any (λ a. is_item x a.item && has_txn found a.by) (all_actions view)
+    found_all x =
+        any_congr (has_acted t x) (λ v. list_any (λ a. is_txn v a.by && is_item x a.item) (all_actions view))
+        (λ v. ap (list_any (λ a. is_item x a.item)) (s.own v) ∙ any_filter (λ a. is_item x a.item) (λ a. is_txn v a.by) (all_actions view)) found
+        ∙ any_swap (λ v a. is_txn v a.by && is_item x a.item) found (all_actions view)
+        ∙ any_congr (λ a. list_any (λ v. is_txn v a.by && is_item x a.item) found) (λ a. is_item x a.item && has_txn found a.by)
+        (λ a. any_of found a.by (is_item x a.item)) (all_actions view)
 
 -- who is found and hits is what closes the cycle
-closes_hit : (view : List Noted) (q : Question) (t : Tables) (s : Stands t view) (found : List Txn) (u : Txn) → has_txn found u ≡ true → hits view q 0 u ≡ true → closes t found q ≡ true
+closes_hit : (view : List Noted) (q : Question) (t : Tables) (s : Tells t view) (found : List Txn) (u : Txn) → has_txn found u ≡ true → hits view q 0 u ≡ true → closes t found q ≡ true
 closes_hit view (reading w k x) t s found u i h =
     or_right (has_txn found w) _ (writer_all view (reading w k x) 0 t s found x
     ∙ any_mono (λ a. is_txn u a.by && (is_item x a.item && a.writes)) (λ a. is_item x a.item && (a.writes && has_txn found a.by))
@@ -155,11 +165,11 @@ closes_hit view (writing w k writes) t s found u i h =
     let here : has_txn found a.by ≡ true = subst (λ z. has_txn found z ≡ true) (sym (same_txn a.by u p.0)) i in
     let g = any_find (λ (p : Item × ℤ). is_item p.0 a.item) writes p.1 in
     or_right (has_txn found w) _
-    (g.2 (λ p. is_found found (chain_at t.items.items p.0.0))
+    (g.2 (λ p. list_any (has_acted t p.0) found)
     (found_all view (writing w k writes) 0 t s found (g.0).0 ∙ f.2 (λ b. is_item (g.0).0 b.item && has_txn found b.by) (and_from _ _ g.1 here)))
 
 -- and the other way round
-hit_closes : (view : List Noted) (q : Question) (t : Tables) (s : Stands t view) (found : List Txn) → closes t found q ≡ true → (has_txn found (asker q) ≡ true) ⊎ ((u : Txn) × (has_txn found u ≡ true) × (hits view q 0 u ≡ true))
+hit_closes : (view : List Noted) (q : Question) (t : Tables) (s : Tells t view) (found : List Txn) → closes t found q ≡ true → (has_txn found (asker q) ≡ true) ⊎ ((u : Txn) × (has_txn found u ≡ true) × (hits view q 0 u ≡ true))
 hit_closes view (reading w k x) t s found c = elim (cases_Bool (has_txn found w)) [
   | inl e ↦ inl e
   | inr e ↦ let f = any_find (λ a. is_item x a.item && (a.writes && has_txn found a.by)) (all_actions view) (sym (writer_all view (reading w k x) 0 t s found x) ∙ grind (arith, common_steps, c, e)) in
@@ -170,7 +180,7 @@ hit_closes view (reading w k x) t s found c = elim (cases_Bool (has_txn found w)
 ]
 hit_closes view (writing w k writes) t s found c = elim (cases_Bool (has_txn found w)) [
   | inl e ↦ inl e
-  | inr e ↦ let g = any_find (λ (p : Item × ℤ). is_found found (chain_at t.items.items p.0.0)) writes (grind (arith, common_steps, c, e)) in
+  | inr e ↦ let g = any_find (λ (p : Item × ℤ). list_any (has_acted t p.0) found) writes (grind (arith, common_steps, c, e)) in
       let y : Item = (g.0).0 in
       let f = any_find (λ a. is_item y a.item && has_txn found a.by) (all_actions view) (sym (found_all view (writing w k writes) 0 t s found y) ∙ g.1) in
       let a : Action = f.0 in
@@ -195,8 +205,8 @@ no_abort (reading t k x) w = refl
 no_abort (writing t k writes) w = refl
 
 -- the answer of a search is that of the list
-pub closes_is : (view : List Noted) (q : Question) (t : Tables) (s : Stands t view) (found : List Txn) → ((v : Txn) → (has_txn found v ≡ true) ↔ Path (Step t) (asker q) v) → has_ended view (asker q) ≡ false → closes t found q ≡ closes_cycle view q
-closes_is view q t s found reached goes_on = both_ways _ _ there back
+pub closes_is : (view : List Noted) (q : Question) (t : Tables) (s : Tells t view) (up : AllPairs (λ m n. m.at < n.at) view) (found : List Txn) → ((v : Txn) → (has_txn found v ≡ true) ↔ Path (Step t) (asker q) v) → has_ended view (asker q) ≡ false → closes t found q ≡ closes_cycle view q
+closes_is view q t s up found reached goes_on = both_ways _ _ there back
   where
     k : ℕ
     k = last_number view + 1
@@ -208,10 +218,10 @@ closes_is view q t s found reached goes_on = both_ways _ _ there back
     goes = not_aborted view u goes_on
 
     to_path : (v : Txn) → has_txn found v ≡ true → Path (Edge view) u v
-    to_path v i = (leads_iff view u v).0 ((steps_lead t view s u v).0 ((reached v).0 i))
+    to_path v i = (leads_iff view u v).0 ((steps_lead t view s up u v).0 ((reached v).0 i))
 
     of_path : (v : Txn) → Path (Edge view) u v → has_txn found v ≡ true
-    of_path v p = (reached v).1 ((steps_lead t view s u v).1 ((leads_iff view u v).1 p))
+    of_path v p = (reached v).1 ((steps_lead t view s up u v).1 ((leads_iff view u v).1 p))
 
     kept : (v : Txn) → has_txn found v ≡ true → Path (Edge (with_action view q)) u v
     kept v i = path_map (edge_stays view (as_noted k q) (no_abort q)) (to_path v i)
@@ -242,8 +252,8 @@ closes_is view q t s found reached goes_on = both_ways _ _ there back
         (path_last view (as_noted k q) u (asker_acts q) (below_next view) u u ((leads_iff (with_action view q) u u).0 l))
 
 -- the least stamp that is reached
-pub before_is : (view : List Noted) (t : Tables) (s : Stands t view) (found : List Txn) (u : Txn) (before : ℕ) → ((v : Txn) → (has_txn found v ≡ true) ↔ Path (Step t) u v) → list_any (λ v. nat_lt (mark t v).stamp before) found ≡ reaches_before view u before
-before_is view t s found u before reached =
+pub before_is : (view : List Noted) (t : Tables) (s : Tells t view) (up : AllPairs (λ m n. m.at < n.at) view) (found : List Txn) (u : Txn) (before : ℕ) → ((v : Txn) → (has_txn found v ≡ true) ↔ Path (Step t) u v) → list_any (λ v. nat_lt (mark t v).stamp before) found ≡ reaches_before view u before
+before_is view t s up found u before reached =
     any_congr (λ v. nat_lt (mark t v).stamp before) (λ v. nat_lt (stamp view v) before) (λ v. ap (λ k. nat_lt k before) (s.stamps v)) found
     ∙ any_same (λ v. nat_lt (stamp view v) before) found (reachable (edges view) u)
-    (λ v. both_ways _ _ (λ i. (steps_lead t view s u v).0 ((reached v).0 i)) (λ l. (reached v).1 ((steps_lead t view s u v).1 l)))
+    (λ v. both_ways _ _ (λ i. (steps_lead t view s up u v).0 ((reached v).0 i)) (λ l. (reached v).1 ((steps_lead t view s up u v).1 l)))

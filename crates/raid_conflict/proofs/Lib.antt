@@ -1,6 +1,7 @@
 pub mod Arranged
 pub mod Cycles
 pub mod Extend
+pub mod Latest
 pub mod Lists
 pub mod Marks
 pub mod Reached

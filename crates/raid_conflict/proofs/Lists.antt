@@ -31,6 +31,32 @@ pub any_congr : {X : Type 0} (f g : X → Bool) → ((x : X) → f x ≡ g x) �
 any_congr f g h [] = refl
 any_congr f g h (x ∷ xs) = ap (λ b. b || list_any f xs) (h x) ∙ ap (λ b. g x || b) (any_congr f g h xs)
 
+-- two tests of one list as one, and two lists in either order
+any_never : {X : Type 0} (xs : List X) → false ≡ list_any (λ x. false) xs
+any_never [] = refl
+any_never (x ∷ xs) = any_never xs
+
+any_or : {X : Type 0} (f g : X → Bool) (xs : List X) → (list_any f xs || list_any g xs) ≡ list_any (λ x. f x || g x) xs
+any_or f g [] = refl
+any_or f g (x ∷ xs) = shuffled (f x) (g x) (list_any f xs) (list_any g xs) ∙ ap (λ b. (f x || g x) || b) (any_or f g xs)
+  where
+    shuffled : (a b c d : Bool) → ((a || c) || (b || d)) ≡ ((a || b) || (c || d))
+    shuffled true b c d = refl
+    shuffled false true true d = refl
+    shuffled false true false d = refl
+    shuffled false false c d = refl
+
+pub any_swap : {X Y : Type 0} (f : X → Y → Bool) (xs : List X) (ys : List Y) → list_any (λ x. list_any (f x) ys) xs ≡ list_any (λ y. list_any (λ x. f x y) xs) ys
+any_swap f [] ys = any_never ys
+any_swap f (x ∷ xs) ys = ap (λ b. list_any (f x) ys || b) (any_swap f xs ys) ∙ any_or (f x) (λ y. list_any (λ z. f z y) xs) ys
+
+-- one of them is the transaction, and a test besides
+pub any_of : (ts : List Txn) (u : Txn) (b : Bool) → list_any (λ v. is_txn v u && b) ts ≡ (b && has_txn ts u)
+any_of [] u true = refl
+any_of [] u false = refl
+any_of (t ∷ ts) u true = grind (arith, common_steps, any_of ts u true)
+any_of (t ∷ ts) u false = grind (arith, common_steps, any_of ts u false)
+
 -- two tests that imply one another are one
 pub both_ways : (a b : Bool) → (a ≡ true → b ≡ true) → (b ≡ true → a ≡ true) → a ≡ b
 both_ways true true f g = refl

@@ -28,7 +28,7 @@ use Rattle.raid_rules.proofs.Acts.{writes_kept, writes_left}
 use Rattle.raid_conflict.specs.declared.tables.Tables.{Tables}
 use Rattle.raid_conflict.specs.declared.tables.Mark.{Mark}
 use Rattle.raid_conflict.specs.Listed.{noted_as}
-use Rattle.raid_conflict.specs.Tables.{chain_at, mark, writes_of, all_actions, Stands, Acted, Marked}
+use Rattle.raid_conflict.specs.Tables.{chain_at, mark, writes_of, all_actions, Tells, Acted, Marked}
 
 -- the actions of a list with one more entry
 pub all_push : (view : List Noted) (n : Noted) → all_actions (view ++ n ∷ []) ≡ all_actions view ++ acts n n.entry
@@ -48,17 +48,17 @@ pub record Idle (e : Entry) : Type 0 where
   pub acts-not : (n : Noted) → acts n e ≡ []
   pub commits-not : commit_of e ≡ None
 
-on_idle : (t : Tables) (view : List Noted) (n : Noted) → Idle n.entry → Stands t view → (x : Item) → chain_at t.items.items x.0 ≡ filter (λ a. is_item x a.item) (all_actions (view ++ n ∷ []))
+on_idle : (t : Tables) (view : List Noted) (n : Noted) → Idle n.entry → Tells t view → (x : Item) → chain_at t.items.items x.0 ≡ filter (λ a. is_item x a.item) (all_actions (view ++ n ∷ []))
 on_idle t view n i s x = s.on x ∙ sym (on_push view n x ∙ ap (λ l. filter (λ a. is_item x a.item) (all_actions view) ++ filter (λ a. is_item x a.item) l) (i.acts-not n) ∙ append-nil (filter (λ a. is_item x a.item) (all_actions view)))
 
-own_idle : (t : Tables) (view : List Noted) (n : Noted) → Idle n.entry → Stands t view → (u : Txn) → chain_at t.own.items u.0 ≡ filter (λ a. is_txn u a.by) (all_actions (view ++ n ∷ []))
+own_idle : (t : Tables) (view : List Noted) (n : Noted) → Idle n.entry → Tells t view → (u : Txn) → chain_at t.own.items u.0 ≡ filter (λ a. is_txn u a.by) (all_actions (view ++ n ∷ []))
 own_idle t view n i s u = s.own u ∙ sym (own_push view n u ∙ ap (λ l. filter (λ a. is_txn u a.by) (all_actions view) ++ filter (λ a. is_txn u a.by) l) (i.acts-not n) ∙ append-nil (filter (λ a. is_txn u a.by) (all_actions view)))
 
 committed_idle : (view : List Noted) (n : Noted) → Idle n.entry → committed (view ++ n ∷ []) ≡ committed view
 committed_idle view n i = committed_push view n ∙ ap (λ o. committed view ++ map (λ c. c.0) (option_to_list o)) i.commits-not ∙ append-nil (committed view)
 
 -- an entry that changes nothing
-stands_idle : (t : Tables) (view : List Noted) (n : Noted) → Idle n.entry → ((u : Txn) → is_begin_of u n.entry ≡ false) → ((u : Txn) → is_abort_of u n.entry ≡ false) → Stands t view → Stands t (view ++ n ∷ [])
+stands_idle : (t : Tables) (view : List Noted) (n : Noted) → Idle n.entry → ((u : Txn) → is_begin_of u n.entry ≡ false) → ((u : Txn) → is_abort_of u n.entry ≡ false) → Tells t view → Tells t (view ++ n ∷ [])
 stands_idle t view n i begins aborts s = record {
   on = on_idle t view n i s;
   own = own_idle t view n i s;
@@ -70,7 +70,7 @@ stands_idle t view n i begins aborts s = record {
 -- an entry that marks a transaction
 stands_marked : (t r : Tables) (view : List Noted) (n : Noted) (of : Txn) (with : Mark) → Idle n.entry → Marked t r of with →
     ((u : Txn) → (if is_txn u of then with else mark t u).stamp ≡ stamp (view ++ n ∷ []) u) →
-    ((u : Txn) → (if is_txn u of then with else mark t u).aborted ≡ has_aborted (view ++ n ∷ []) u) → Stands t view → Stands r (view ++ n ∷ [])
+    ((u : Txn) → (if is_txn u of then with else mark t u).aborted ≡ has_aborted (view ++ n ∷ []) u) → Tells t view → Tells r (view ++ n ∷ [])
 stands_marked t r view n of with i m stamps aborted s = record {
   on = λ x. m.on x ∙ on_idle t view n i s x;
   own = λ u. m.own u ∙ own_idle t view n i s u;
@@ -83,7 +83,7 @@ stands_marked t r view n of with i m stamps aborted s = record {
 stands_acted : (t r : Tables) (view : List Noted) (n : Noted) (by : Txn) →
     ((u : Txn) → filter (λ a. is_txn u a.by) (acts n n.entry) ≡ (if is_txn u by then acts n n.entry else [])) →
     ((u : Txn) → is_begin_of u n.entry ≡ false) → ((u : Txn) → is_abort_of u n.entry ≡ false) →
-    Acted t r by (acts n n.entry) → r.committed.items ≡ committed (view ++ n ∷ []) → Stands t view → Stands r (view ++ n ∷ [])
+    Acted t r by (acts n n.entry) → r.committed.items ≡ committed (view ++ n ∷ []) → Tells t view → Tells r (view ++ n ∷ [])
 stands_acted t r view n by mine begins aborts a committed s = record {
   on = λ x. a.on x ∙ ap (λ l. l ++ filter (λ b. is_item x b.item) (acts n n.entry)) (s.on x) ∙ sym (on_push view n x);
   own = λ u. a.own u ∙ owned _ _ _ _ _ (is_txn u by) (mine u) (s.own u) (own_push view n u);
@@ -125,7 +125,7 @@ is_idle e (inr (inr (inr (inr (inl q))))) = subst IsIdle (sym q.1) tt
 is_idle e (inr (inr (inr (inr (inr (inl q)))))) = subst IsIdle (sym q.2) tt
 is_idle e (inr (inr (inr (inr (inr (inr q)))))) = subst IsIdle (sym q.3) tt
 
-pub note_idle : (t : Tables) (e : Entry) → IsIdle e → (at : ℕ) (view : List Noted) (stamp : ℕ) → Stands t view → Stands t (view ++ noted_as at stamp e ∷ [])
+pub note_idle : (t : Tables) (e : Entry) → IsIdle e → (at : ℕ) (view : List Noted) (stamp : ℕ) → Tells t view → Tells t (view ++ noted_as at stamp e ∷ [])
 note_idle t (Begin u home) i at view stamp s = absurd i
 note_idle t (Read u x site) i at view stamp s = absurd i
 note_idle t (Commit u request applied) i at view stamp s = absurd i
@@ -150,36 +150,36 @@ same_stamp false with m h = refl
 -- each entry that changes the tables
 module _ (t r : Tables) (e : Entry) (at : ℕ) where
   pub note_begin : (u : Txn) (home : Site) → e ≡ Begin u home → Marked t r u (record { stamp = at; aborted = (mark t u).aborted }) →
-      (view : List Noted) (stamp : ℕ) → Stands t view → Stands r (view ++ noted_as at stamp e ∷ [])
+      (view : List Noted) (stamp : ℕ) → Tells t view → Tells r (view ++ noted_as at stamp e ∷ [])
   note_begin u home is m view stamp s =
       let n = noted_as at stamp (Begin u home) in
-      subst (λ z. Stands r (view ++ noted_as at stamp z ∷ [])) (sym is)
+      subst (λ z. Tells r (view ++ noted_as at stamp z ∷ [])) (sym is)
       (stands_marked t r view n u _ (record { acts-not = λ n. refl; commits-not = refl }) m
       (λ w. grind (arith, common_steps, s.stamps w, number_of_push (is_begin_of w) view n))
       (λ w. same_aborted (is_txn w u) _ (mark t w) (λ q. ap (λ z. (mark t z).aborted) (same_txn u w q)) ∙ s.aborted w ∙ grind (arith, common_steps, aborted_push view n w)) s)
 
   pub note_abort : (u : Txn) (cause : Cause) (act : Act) → e ≡ Abort u cause act → Marked t r u (record { stamp = (mark t u).stamp; aborted = true }) →
-      (view : List Noted) (stamp : ℕ) → Stands t view → Stands r (view ++ noted_as at stamp e ∷ [])
+      (view : List Noted) (stamp : ℕ) → Tells t view → Tells r (view ++ noted_as at stamp e ∷ [])
   note_abort u cause act is m view stamp s =
       let n = noted_as at stamp (Abort u cause act) in
-      subst (λ z. Stands r (view ++ noted_as at stamp z ∷ [])) (sym is)
+      subst (λ z. Tells r (view ++ noted_as at stamp z ∷ [])) (sym is)
       (stands_marked t r view n u _ (record { acts-not = λ n. refl; commits-not = refl }) m
       (λ w. same_stamp (is_txn w u) _ (mark t w) (λ q. ap (λ z. (mark t z).stamp) (same_txn u w q)) ∙ s.stamps w ∙ grind (arith, common_steps, number_of_push (is_begin_of w) view n))
       (λ w. grind (arith, common_steps, s.aborted w, aborted_push view n w)) s)
 
   pub note_read : (u : Txn) (x : Item) (site : Site) → e ≡ Read u x site → Acted t r u (record { at = at; by = u; item = x; writes = false } ∷ []) → r.committed.items ≡ t.committed.items →
-      (view : List Noted) (stamp : ℕ) → Stands t view → Stands r (view ++ noted_as at stamp e ∷ [])
+      (view : List Noted) (stamp : ℕ) → Tells t view → Tells r (view ++ noted_as at stamp e ∷ [])
   note_read u x site is a same view stamp s =
       let n = noted_as at stamp (Read u x site) in
-      subst (λ z. Stands r (view ++ noted_as at stamp z ∷ [])) (sym is)
+      subst (λ z. Tells r (view ++ noted_as at stamp z ∷ [])) (sym is)
       (stands_acted t r view n u (λ w. read_mine (record { at = at; by = u; item = x; writes = false }) w u refl) (λ w. refl) (λ w. refl) a
       (same ∙ s.committed ∙ sym (committed_push view n ∙ append-nil (committed view))) s)
 
   pub note_commit : (u : Txn) (request : Request) (applied : List Site) → e ≡ Commit u request applied → Acted t r u (writes_of at u request.writes) → r.committed.items ≡ t.committed.items ++ u ∷ [] →
-      (view : List Noted) (stamp : ℕ) → Stands t view → Stands r (view ++ noted_as at stamp e ∷ [])
+      (view : List Noted) (stamp : ℕ) → Tells t view → Tells r (view ++ noted_as at stamp e ∷ [])
   note_commit u request applied is a more view stamp s =
       let n = noted_as at stamp (Commit u request applied) in
-      subst (λ z. Stands r (view ++ noted_as at stamp z ∷ [])) (sym is)
+      subst (λ z. Tells r (view ++ noted_as at stamp z ∷ [])) (sym is)
       (stands_acted t r view n u (λ w. writes_mine at u w request.writes) (λ w. refl) (λ w. refl) a
       (more ∙ ap (λ l. l ++ u ∷ []) s.committed ∙ sym (committed_push view n)) s)
 

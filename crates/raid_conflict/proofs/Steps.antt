@@ -1,6 +1,6 @@
 -- The steps of a search are the edges of the list.
 use Rattle.std.proofs.Common.{◌≡◌, ◌↔◌, ℕ, zero, suc, ◌<◌, nat_lt, Bool, true, false, not, ◌&&◌, List, [], ◌∷◌, length, arith, sym, ◌∙◌, ap, subst, refl}
-use Rattle.std.specs.List.{list_any}
+use Rattle.std.specs.List.{list_any, AllPairs}
 use Rattle.std.proofs.lemmas.Bool.{true≢false, and_parts, and_from}
 use Rattle.std.proofs.lemmas.Grind.{common_steps}
 use Rattle.raid_base.specs.declared.names.Txn.{Txn}
@@ -14,9 +14,10 @@ use Rattle.raid_rules.proofs.Reach.{IsPair, any_mono, leads_path, path_leads}
 use Rattle.raid_rules.proofs.Edges.{path_map}
 use Rattle.raid_conflict.specs.declared.chains.Chain.{Chain}
 use Rattle.raid_conflict.specs.declared.tables.Tables.{Tables}
-use Rattle.raid_conflict.specs.Tables.{chain_at, all_actions, Stands}
-use Rattle.raid_conflict.specs.Search.{is_against, is_after, leads_on, is_step, Step}
+use Rattle.raid_conflict.specs.Tables.{chain_at, all_actions, Tells}
+use Rattle.raid_conflict.specs.Search.{latest, is_against, is_after, leads_on, is_step, Step}
 use Rattle.raid_conflict.proofs.Lists.{any_filter, any_congr, any_pair, from_any}
+use Rattle.raid_conflict.proofs.Latest.{Orderly, filter_orderly, view_orderly, latest_enough}
 
 -- a chain with something in it has a place
 chain_placed : (chains : List Chain) (k : ℕ) (f : Action → Bool) → list_any f (chain_at chains k) ≡ true → k < length chains
@@ -24,7 +25,7 @@ chain_placed [] k f e = absurd (true≢false (sym e))
 chain_placed (c ∷ cs) zero f e = omega arith
 chain_placed (c ∷ cs) (suc k) f e = omega (arith, chain_placed cs k f e)
 
-module _ (t : Tables) (view : List Noted) (s : Stands t view) where
+module _ (t : Tables) (view : List Noted) (s : Tells t view) where
   -- who acts has a place
   acts_placed : (v : Txn) → list_any (λ b. is_txn v b.by) (all_actions view) ≡ true → v.0 < length t.own.items
   acts_placed v e =
@@ -35,16 +36,6 @@ module _ (t : Tables) (view : List Noted) (s : Stands t view) where
       twice : (b : Bool) → (b && b) ≡ b
       twice true = refl
       twice false = refl
-
-  -- a step, over all actions
-  step_all : (u v : Txn) → is_step t u v ≡ (not (has_aborted view u) && list_any (λ a. is_txn u a.by && list_any (λ b. is_item a.item b.item && (is_against t a b && is_txn v b.by)) (all_actions view)) (all_actions view))
-  step_all u v =
-      ap (λ b. not b && leads_on t (chain_at t.own.items u.0) v) (s.aborted u)
-      ∙ ap (λ l. not (has_aborted view u) && leads_on t l v) (s.own u)
-      ∙ ap (λ b. not (has_aborted view u) && b)
-      (any_filter (λ a. is_after t a (chain_at t.items.items a.item.0) v) (λ a. is_txn u a.by) (all_actions view)
-      ∙ any_congr (λ a. is_txn u a.by && is_after t a (chain_at t.items.items a.item.0) v) (λ a. is_txn u a.by && list_any (λ b. is_item a.item b.item && (is_against t a b && is_txn v b.by)) (all_actions view))
-      (λ a. ap (λ b. is_txn u a.by && b) (ap (λ l. is_after t a l v) (s.on a.item) ∙ any_filter (λ b. is_against t a b && is_txn v b.by) (λ b. is_item a.item b.item) (all_actions view))) (all_actions view))
 
   -- an edge, over all actions
   pub pair_all : (u v : Txn) → list_any (λ e. is_txn u e.0 && is_txn v e.1) (edges view)
@@ -78,26 +69,42 @@ module _ (t : Tables) (view : List Noted) (s : Stands t view) where
       let m : b.by.0 < length t.own.items = subst (λ (z : Txn). z.0 < length t.own.items) (sym (same_txn b.by v e)) l in
       grind (arith, m)
 
-  pub step_pair : (u v : Txn) → Step t u v → IsPair (edges view) u v
-  step_pair u v e =
-      let p = and_parts (not (has_aborted view u)) _ (sym (step_all u v) ∙ e) in
-      pair_all u v ∙ any_mono (λ a. is_txn u a.by && list_any (λ b. is_item a.item b.item && (is_against t a b && is_txn v b.by)) (all_actions view)) (λ a. not (has_aborted view a.by) && list_any (λ b. not (has_aborted view b.by) && (precedes a b && (is_txn u a.by && is_txn v b.by))) (all_actions view))
-      (λ a h. let q = and_parts (is_txn u a.by) _ h in
-      and_from _ _ (subst (λ z. not (has_aborted view z) ≡ true) (sym (same_txn a.by u q.0)) p.0)
-      (any_mono (λ b. is_item a.item b.item && (is_against t a b && is_txn v b.by)) (λ b. not (has_aborted view b.by) && (precedes a b && (is_txn u a.by && is_txn v b.by)))
-      (λ b i. grind (arith, common_steps, i, q.0, s.aborted b.by)) (all_actions view) q.1))
-      (all_actions view) p.1
+  module _ (up : AllPairs (λ m n. m.at < n.at) view) where
+    -- a step, over all actions
+    step_all : (u v : Txn) → is_step t u v ≡ (not (has_aborted view u) && list_any (λ a. is_txn u a.by && list_any (λ b. is_item a.item b.item && (is_against t a b && is_txn v b.by)) (all_actions view)) (all_actions view))
+    step_all u v =
+        ap (λ b. not b && leads_on t (chain_at t.own.items u.0) v) (s.aborted u)
+        ∙ ap (λ l. not (has_aborted view u) && leads_on t l v) (s.own u)
+        ∙ ap (λ b. not (has_aborted view u) && b)
+        (any_filter (λ a. is_after t a (latest a.at (chain_at t.items.items a.item.0)) v) (λ a. is_txn u a.by) (all_actions view)
+        ∙ any_congr (λ a. is_txn u a.by && is_after t a (latest a.at (chain_at t.items.items a.item.0)) v) (λ a. is_txn u a.by && list_any (λ b. is_item a.item b.item && (is_against t a b && is_txn v b.by)) (all_actions view))
+        (λ a. ap (λ b. is_txn u a.by && b) (late_after a ∙ ap (λ l. is_after t a l v) (s.on a.item) ∙ any_filter (λ b. is_against t a b && is_txn v b.by) (λ b. is_item a.item b.item) (all_actions view))) (all_actions view))
+      where
+        late_after : (a : Action) → is_after t a (latest a.at (chain_at t.items.items a.item.0)) v ≡ is_after t a (chain_at t.items.items a.item.0) v
+        late_after a =
+            latest_enough a.at (λ b. is_against t a b && is_txn v b.by) (λ b h. grind (arith, common_steps, h)) (chain_at t.items.items a.item.0)
+            (subst (Orderly a.at) (sym (s.on a.item)) (filter_orderly a.at (λ b. is_item a.item b.item) (all_actions view) (view_orderly a.at view up)))
 
-  pub pair_step : (u v : Txn) → IsPair (edges view) u v → Step t u v
-  pair_step u v e =
-      let f : list_any (λ a. not (has_aborted view a.by) && list_any (λ b. not (has_aborted view b.by) && (precedes a b && (is_txn u a.by && is_txn v b.by))) (all_actions view)) (all_actions view) ≡ true = sym (pair_all u v) ∙ e in
-      step_all u v ∙ and_from _ _ (edge_stays u v f) (any_mono (λ a. not (has_aborted view a.by) && list_any (λ b. not (has_aborted view b.by) && (precedes a b && (is_txn u a.by && is_txn v b.by))) (all_actions view)) (λ a. is_txn u a.by && list_any (λ b. is_item a.item b.item && (is_against t a b && is_txn v b.by)) (all_actions view))
-      (λ a h. let q = and_parts (not (has_aborted view a.by)) _ h in
-      and_from _ _ (edge_first u v a q.1)
-      (any_mono (λ b. not (has_aborted view b.by) && (precedes a b && (is_txn u a.by && is_txn v b.by))) (λ b. is_item a.item b.item && (is_against t a b && is_txn v b.by))
-      (λ b i. grind (arith, common_steps, i, s.aborted b.by, edge_placed u v f b)) (all_actions view) q.1))
-      (all_actions view) f)
+    pub step_pair : (u v : Txn) → Step t u v → IsPair (edges view) u v
+    step_pair u v e =
+        let p = and_parts (not (has_aborted view u)) _ (sym (step_all u v) ∙ e) in
+        pair_all u v ∙ any_mono (λ a. is_txn u a.by && list_any (λ b. is_item a.item b.item && (is_against t a b && is_txn v b.by)) (all_actions view)) (λ a. not (has_aborted view a.by) && list_any (λ b. not (has_aborted view b.by) && (precedes a b && (is_txn u a.by && is_txn v b.by))) (all_actions view))
+        (λ a h. let q = and_parts (is_txn u a.by) _ h in
+        and_from _ _ (subst (λ z. not (has_aborted view z) ≡ true) (sym (same_txn a.by u q.0)) p.0)
+        (any_mono (λ b. is_item a.item b.item && (is_against t a b && is_txn v b.by)) (λ b. not (has_aborted view b.by) && (precedes a b && (is_txn u a.by && is_txn v b.by)))
+        (λ b i. grind (arith, common_steps, i, q.0, s.aborted b.by)) (all_actions view) q.1))
+        (all_actions view) p.1
 
-  -- so what a search finds is what the list says
-  pub steps_lead : (u v : Txn) → Path (Step t) u v ↔ (leads (edges view) u v ≡ true)
-  steps_lead u v = (λ p. path_leads (edges view) u v (path_map step_pair p), λ l. path_map pair_step (leads_path (edges view) u v l))
+    pub pair_step : (u v : Txn) → IsPair (edges view) u v → Step t u v
+    pair_step u v e =
+        let f : list_any (λ a. not (has_aborted view a.by) && list_any (λ b. not (has_aborted view b.by) && (precedes a b && (is_txn u a.by && is_txn v b.by))) (all_actions view)) (all_actions view) ≡ true = sym (pair_all u v) ∙ e in
+        step_all u v ∙ and_from _ _ (edge_stays u v f) (any_mono (λ a. not (has_aborted view a.by) && list_any (λ b. not (has_aborted view b.by) && (precedes a b && (is_txn u a.by && is_txn v b.by))) (all_actions view)) (λ a. is_txn u a.by && list_any (λ b. is_item a.item b.item && (is_against t a b && is_txn v b.by)) (all_actions view))
+        (λ a h. let q = and_parts (not (has_aborted view a.by)) _ h in
+        and_from _ _ (edge_first u v a q.1)
+        (any_mono (λ b. not (has_aborted view b.by) && (precedes a b && (is_txn u a.by && is_txn v b.by))) (λ b. is_item a.item b.item && (is_against t a b && is_txn v b.by))
+        (λ b i. grind (arith, common_steps, i, s.aborted b.by, edge_placed u v f b)) (all_actions view) q.1))
+        (all_actions view) f)
+
+    -- so what a search finds is what the list says
+    pub steps_lead : (u v : Txn) → Path (Step t) u v ↔ (leads (edges view) u v ≡ true)
+    steps_lead u v = (λ p. path_leads (edges view) u v (path_map step_pair p), λ l. path_map pair_step (leads_path (edges view) u v l))

@@ -1,8 +1,9 @@
 -- Steps of a search over the tables.
-use Rattle.std.specs.Prelude.{◌≡◌, nat_lt, Bool, true, not, ◌&&◌, ◌||◌, List, length}
+use Rattle.std.specs.Prelude.{◌≡◌, ℕ, nat_lt, Bool, true, not, ◌&&◌, ◌||◌, List, [], ◌∷◌, ◌++◌, fold, length, if◌then◌else◌}
 use Rattle.std.specs.List.{list_any}
 use Rattle.raid_base.specs.declared.names.Txn.{Txn}
-use Rattle.raid_base.specs.Names.{is_txn, has_txn}
+use Rattle.raid_base.specs.declared.names.Item.{Item}
+use Rattle.raid_base.specs.Names.{is_txn, is_item, has_txn}
 use Rattle.raid_rules.specs.declared.conflict.Action.{Action}
 use Rattle.raid_rules.specs.Conflict.{precedes}
 use Rattle.raid_rules.specs.Verdicts.{Question, reading, writing}
@@ -17,9 +18,13 @@ is_against t a b = precedes a b && (not (mark t b.by).aborted && nat_lt b.by.0 (
 abbrev pub is_after : Tables → Action → List Action → Txn → Bool
 is_after t a others v = list_any (λ b. is_against t a b && is_txn v b.by) others
 
--- one of these actions has such an action of v on its item
+-- the actions at the end of a list that all have larger numbers than this one
+abbrev pub latest : ℕ → List Action → List Action
+latest at actions = fold (λ late b. if nat_lt at b.at then late ++ b ∷ [] else []) [] actions
+
+-- one of these actions has such an action of v at the end of the chain of its item
 abbrev pub leads_on : Tables → List Action → Txn → Bool
-leads_on t actions v = list_any (λ a. is_after t a (chain_at t.items.items a.item.0) v) actions
+leads_on t actions v = list_any (λ a. is_after t a (latest a.at (chain_at t.items.items a.item.0)) v) actions
 
 -- u isn't aborted, and one of its actions leads to v
 abbrev pub is_step : Tables → Txn → Txn → Bool
@@ -28,14 +33,14 @@ is_step t u v = not (mark t u).aborted && leads_on t (chain_at t.own.items u.0) 
 abbrev pub Step : Tables → Txn → Txn → Type 0
 Step t u v = is_step t u v ≡ true
 
--- among these actions is one of a transaction that was found, or a write of one
-abbrev pub is_found : List Txn → List Action → Bool
-is_found found actions = list_any (λ a. has_txn found a.by) actions
+-- one of the transaction's actions is on the item, or writes it
+abbrev pub has_acted : Tables → Item → Txn → Bool
+has_acted t x v = list_any (λ a. is_item x a.item) (chain_at t.own.items v.0)
 
-abbrev pub is_writer_found : List Txn → List Action → Bool
-is_writer_found found actions = list_any (λ a. a.writes && has_txn found a.by) actions
+abbrev pub has_written : Tables → Item → Txn → Bool
+has_written t x v = list_any (λ a. a.writes && is_item x a.item) (chain_at t.own.items v.0)
 
 -- the asker was found, or one whom the asked action would follow
 abbrev pub closes : Tables → List Txn → Question → Bool
-closes t found (reading u k x) = has_txn found u || is_writer_found found (chain_at t.items.items x.0)
-closes t found (writing u k writes) = has_txn found u || list_any (λ p. is_found found (chain_at t.items.items p.0.0)) writes
+closes t found (reading u k x) = has_txn found u || list_any (has_written t x) found
+closes t found (writing u k writes) = has_txn found u || list_any (λ p. list_any (has_acted t p.0) found) writes

@@ -1,5 +1,5 @@
 -- What the tables of a graph say of a list of noted entries.
-use Rattle.std.specs.Prelude.{◌≡◌, ◌+◌, ◌-◌, ℕ, ℤ, true, false, List, [], ◌++◌, filter, flat_map, map, slice_index_or, slice_get, vec_len, vec_capacity, if◌then◌else◌}
+use Rattle.std.specs.Prelude.{◌≡◌, ◌+◌, ◌-◌, ◌<◌, ℕ, ℤ, true, false, List, [], ◌++◌, filter, flat_map, map, slice_index_or, slice_get, vec_len, vec_capacity, if◌then◌else◌, AllPairs}
 use Rattle.std.specs.Option.{option_map_or}
 use Rattle.raid_base.specs.declared.names.Txn.{Txn}
 use Rattle.raid_base.specs.declared.names.Item.{Item}
@@ -44,12 +44,17 @@ places_of (Commit t request applied) = t.0 + 1
 places_of other = 0
 
 -- the tables answer each question as the list does
-pub record Stands (t : Tables) (view : List Noted) : Type 0 where
+pub record Tells (t : Tables) (view : List Noted) : Type 0 where
   pub on : (x : Item) → chain_at t.items.items x.0 ≡ filter (λ a. is_item x a.item) (all_actions view)
   pub own : (u : Txn) → chain_at t.own.items u.0 ≡ filter (λ a. is_txn u a.by) (all_actions view)
   pub stamps : (u : Txn) → (mark t u).stamp ≡ stamp view u
   pub aborted : (u : Txn) → (mark t u).aborted ≡ has_aborted view u
   pub committed : t.committed.items ≡ committed view
+
+-- the tables tell what the list says, and its numbers ascend
+pub record Stands (t : Tables) (view : List Noted) : Type 0 where
+  pub tells : Tells t view
+  pub ascends : AllPairs (λ m n. m.at < n.at) view
 
 -- the tables answer as before
 pub record AnswersAlike (t s : Tables) : Type 0 where

@@ -7,7 +7,7 @@ ghost use Rattle.raid_rules.specs.Committed.{up_to, IsCycle, IsOrderOf};
 ghost use Rattle.raid_conflict.specs.Arrange as words;
 ghost use Rattle.raid_conflict.specs.Arrange.{IsLeft, Joined};
 ghost use Rattle.raid_conflict.specs.Found.{is_marked};
-ghost use Rattle.raid_conflict.specs.Tables.{Stands};
+ghost use Rattle.raid_conflict.specs.Tables.{Tells};
 
 use crate::ahead;
 use crate::tables::{self, Tables};
@@ -61,7 +61,7 @@ fn list_next(
     all: &[Txn],
     listed: &mut TxnList,
 ) -> Result<(), NoMemory>
-    ensures ok { OnOk result ((view : List Noted) → Stands tables.now view → IsLeft all.now left.old.items listed.old → (listed.new ≡ list_next (edges view) all.now listed.old) × IsLeft all.now left.new.items listed.new) }
+    ensures ok { OnOk result ((view : List Noted) → Tells tables.now view → IsLeft all.now left.old.items listed.old → (listed.new ≡ list_next (edges view) all.now listed.old) × IsLeft all.now left.new.items listed.new) }
     ensures less { (t : Txn) → is_marked left.new.items t ≡ true → is_marked left.old.items t ≡ true }
 {
     match next(tables, left.as_slice(), all) {
@@ -82,7 +82,7 @@ fn listing(
     left: &mut Vec<bool>,
     all: &[Txn],
 ) -> Result<TxnList, NoMemory>
-    ensures ok { IfOk result (λ listed. (view : List Noted) → Stands tables.now view → IsLeft all.now left.old.items [] → (listed ≡ listing (edges view) all.now) × IsLeft all.now left.new.items listed) }
+    ensures ok { IfOk result (λ listed. (view : List Noted) → Tells tables.now view → IsLeft all.now left.old.items [] → (listed ≡ listing (edges view) all.now) × IsLeft all.now left.new.items listed) }
     ensures less { (t : Txn) → is_marked left.new.items t ≡ true → is_marked left.old.items t ≡ true }
 {
     let mut listed = TxnList::new(alloc);
@@ -156,7 +156,7 @@ fn cycle(
 
 /// The order of the committed transactions: whole, or a cycle of theirs.
 pub fn arranged(alloc: Global, tables: &Tables) -> Result<Order, NoMemory>
-    ensures { IfOk result (λ order. (view : List Noted) → Stands tables.now view → IsOrderOf view order) }
+    ensures { IfOk result (λ order. (view : List Noted) → Tells tables.now view → IsOrderOf view order) }
 {
     let all = tables.committed.as_slice();
     let mut left = marks_of(alloc, all)?;

@@ -1,6 +1,8 @@
-ghost use Rattle.std.specs.Prelude.{◌≡◌, ◌≤◌, ◌||◌, ◌↔◌, ℕ, true, [], vec_len, length};
+ghost use Rattle.std.specs.Prelude.{◌≡◌, ◌≤◌, ◌<◌, ◌-◌, ◌||◌, ◌↔◌, ℕ, true, [], vec_len, length, slice_index_or};
+ghost use Rattle.std.specs.Bool.{OnTrue, OnFalse};
 ghost use Rattle.raid_base.specs.declared.names.Txn.{Txn};
 ghost use Rattle.raid_base.specs.Names.{has_txn};
+ghost use Rattle.raid_rules.specs.declared.conflict.Action.{Action};
 ghost use Rattle.raid_rules.specs.Conflict.{Path};
 ghost use Rattle.raid_conflict.specs.Found.{Longer};
 ghost use Rattle.raid_conflict.specs.Search as words;
@@ -35,15 +37,44 @@ fn find_after(tables: &Tables, found: &mut Found, action: &Action, others: &[Act
     }
 }
 
+/// Whether the action before this place has a larger number, if there is one.
+fn is_later(actions: &[Action], place: usize, at: u64) -> bool
+    requires { place ≤ length actions.now }
+    ensures some { OnTrue result (0 < place) }
+    ensures yes { OnTrue result ((d : Action) → at < (slice_index_or actions.now (place - 1) d).at) }
+    ensures no { OnFalse result ((d : Action) → 0 < place → (slice_index_or actions.now (place - 1) d).at ≤ at) }
+{
+    place > 0 && actions[place - 1].at > at
+}
+
+/// The actions at the end that all have larger numbers. Where numbers ascend, no others do, and the rest of a long
+/// chain is not looked at.
+fn latest(actions: &[Action], at: u64) -> &[Action]
+    ensures { result.now ≡ words.latest at actions.now }
+{
+    let mut start = actions.len();
+    while is_later(actions, start, at) {
+        start -= 1;
+    }
+    &actions[start..]
+}
+
 /// Finds the transactions to which an action leads.
 fn find_from(tables: &Tables, found: &mut Found, action: &Action)
     requires { vec_len tables.now.own ≤ found.old.1 }
-    ensures found { (v : Txn) → has_txn found.new.0 v ≡ (has_txn found.old.0 v || words.is_after tables.now action.now (chain_at tables.now.items.items action.now.item.0) v) }
+    ensures found { (v : Txn) → has_txn found.new.0 v ≡ (has_txn found.old.0 v || words.is_after tables.now action.now (words.latest action.now.at (chain_at tables.now.items.items action.now.item.0)) v) }
     ensures longer { Longer found.old.0 found.new.0 }
     ensures places { found.new.1 ≡ found.old.1 }
 {
     match tables.items.get(action.item.0 as usize) {
-        Some(chain) => find_after(tables, found, action, chain.actions.as_slice()),
+        Some(chain) => {
+            find_after(
+                tables,
+                found,
+                action,
+                latest(chain.actions.as_slice(), action.at),
+            )
+        }
         None => {}
     }
 }

@@ -48,7 +48,7 @@ pub fn grow<T: Copy + Drop>(table: &mut Vec<T>, place: usize, blank: T) -> Resul
 impl Tables {
     /// The tables of the empty list, with room for so many transactions and items.
     pub fn new(alloc: Global, transactions: u32, items: u32) -> Result<Tables, NoMemory>
-        ensures stands { IfOk result (λ t. words.Stands t []) }
+        ensures stands { IfOk result (λ t. words.Tells t []) }
         ensures none { IfOk result (λ t. vec_len t.own ≡ 0) }
     {
         let own = Vec::with_capacity(alloc, transactions as usize + 1)?;
@@ -143,8 +143,8 @@ impl Tables {
 
     /// Notes an entry under its number. After want of memory the tables say what they said.
     pub fn note(&mut self, at: u32, entry: &Entry) -> Result<(), NoMemory>
-        ensures ok { OnOk result ((view : List Noted) (stamp : ℕ) → words.Stands self.old view → words.Stands self.new (view ++ noted_as at stamp entry.now ∷ [])) }
-        ensures err { OnErr result ((view : List Noted) → words.Stands self.old view → words.Stands self.new view) }
+        ensures ok { OnOk result ((view : List Noted) (stamp : ℕ) → words.Tells self.old view → words.Tells self.new (view ++ noted_as at stamp entry.now ∷ [])) }
+        ensures err { OnErr result ((view : List Noted) → words.Tells self.old view → words.Tells self.new view) }
         ensures few { vec_len self.new.own ≤ max (vec_len self.old.own) (words.places_of entry.now) }
     {
         match entry {
@@ -164,7 +164,7 @@ impl Tables {
 
     /// Forgets all: the tables of the empty list.
     pub fn clear(&mut self)
-        ensures stands { words.Stands self.new [] }
+        ensures stands { words.Tells self.new [] }
         ensures none { vec_len self.new.own ≡ 0 }
     {
         self.items.clear();
