@@ -4,6 +4,7 @@ ghost use Rattle.std.specs.Prelude.{◌≤◌};
 
 use anyhow::{Result, bail};
 use raid_base::{Ask, Kind, Listed, Noted, Placement, Refusal, Site, Txn, Verdict};
+use raid_conflict::Graph;
 use raid_rules::order::{Order, order_of};
 use raid_rules::{judge, sessions};
 use raid_view_lines::entries;
@@ -175,13 +176,12 @@ impl Table {
         Ok(())
     }
 
-    /// Compares the order: the serial order, or that there is a cycle.
+    /// Compares the order, the plain program's and the conflict graph's: the serial order, or that there is a cycle.
     fn order(&mut self, alloc: Global, line: &[Word], cyclic: bool) -> Result<()> {
-        let same = match order_of(alloc, self.entries.as_slice())? {
-            Order::Whole(order) => !cyclic && is_listed_so(order.as_slice(), line)?,
-            Order::Cyclic(_) => cyclic,
-        };
-        self.compare(same);
+        let plain = order_of(alloc, self.entries.as_slice())?;
+        self.compare(is_so(&plain, line, cyclic)?);
+        let graph = graph_order(alloc, self.entries.as_slice())?;
+        self.compare(is_so(&graph, line, cyclic)?);
         Ok(())
     }
 
@@ -206,6 +206,23 @@ impl Table {
             Head::End => {}
         }
         Ok(head)
+    }
+}
+
+/// The order that the conflict graph tells, once it was told of the entries.
+fn graph_order(alloc: Global, entries: &[Noted]) -> Result<Order> {
+    let mut graph = Graph::new(alloc, 0, 0)?;
+    for noted in entries {
+        graph.note(noted.at, noted.stamp, &noted.entry)?;
+    }
+    Ok(graph.order(alloc)?)
+}
+
+/// Whether the order is what the line says.
+fn is_so(order: &Order, line: &[Word], cyclic: bool) -> Result<bool> {
+    match order {
+        Order::Whole(order) => Ok(!cyclic && is_listed_so(order.as_slice(), line)?),
+        Order::Cyclic(_) => Ok(cyclic),
     }
 }
 

@@ -1,5 +1,5 @@
-//! Judges random views by the plain program of the rules, and compares with the answers that stand beside
-//! them: those of a reference model (tests/make_views.py has the form of the lines).
+//! Judges random views by the plain program of the rules, orders their transactions by it and by the conflict
+//! graph, and compares with the answers that stand beside them: those of a reference model (tests/make_views.py has the form of the lines).
 #![tactic(auto)]
 
 mod answers;
