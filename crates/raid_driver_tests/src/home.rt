@@ -12,6 +12,28 @@ pub const Y: Item = Item(1);
 const FIVE_PROGRAMS: &str =
     "workload 2\nsites 2 together 2\nrestarts 1\nitem x 5 at 1 2\nitem y 7 at 1 2\nopen lock native\nprogram 1\nread x r0\nwrite y r0 + 1\nend\nprogram 2\nwrite x 1\nend\nprogram 1\nwrite x 3\nread x r0\nend\nprogram 1\nread y r0\nstop if r0 < 9\nend\nprogram 1\nread x r0\nwrite y 9223372036854775807 + r0\nend\ndone\n";
 
+/// A call of the driver of site 1.
+#[derive(Clone, Copy)]
+pub enum Call {
+    Start,
+    BeginNext,
+    Value(u32, u32, i64),
+    Serving(u32, u32, u8),
+    Down(u8),
+    Ended(u32),
+    Reset(u32),
+    Again(u32),
+}
+
+/// What the driver sends, all of it to the sequencer; an EndAsk with the one pair that was read.
+#[derive(Clone, Copy, Debug, PartialEq, Eq)]
+pub enum Sent {
+    Begin(u32),
+    Ask(u32, u32, Item),
+    End(u32, Cause, Item, i64),
+    Other,
+}
+
 /// The workload of the text. Where it is none, memory is said to be refused.
 fn workload(alloc: Global) -> Result<Workload, NoMemory> {
     if FIVE_PROGRAMS.len() > 1000 {
@@ -20,149 +42,117 @@ fn workload(alloc: Global) -> Result<Workload, NoMemory> {
     raid_text::parse(alloc, FIVE_PROGRAMS.as_bytes()).map_err(|_| NoMemory)
 }
 
-/// The driver of site 1, with what it has sent.
-#[derive(Drop)]
-pub struct Home {
+/// Begins the next attempt, where one is left.
+fn again(
+    driver: &mut Driver,
     alloc: Global,
-    workload: Workload,
-    driver: Driver,
-    outs: Outs,
+    workload: &Workload,
+    txn: u32,
+    outs: &mut Outs,
+) -> Result<(), NoMemory> {
+    let programs = workload.programs.len() as u32;
+    if programs == 0 || txn == 0 || attempt_of(Txn(txn), programs) >= workload.restarts as u32 {
+        return Err(NoMemory);
+    }
+    driver.again(alloc, workload, Txn(txn), outs)
 }
 
-impl Home {
-    pub fn new(alloc: Global) -> Result<Home, NoMemory> {
-        let workload = workload(alloc)?;
-        let driver = Driver::new(alloc, &workload, Site(1))?;
-        Ok(Home {
-            alloc,
-            workload,
-            driver,
-            outs: Outs::new(alloc),
-        })
+/// Makes a call.
+fn make(
+    driver: &mut Driver,
+    alloc: Global,
+    workload: &Workload,
+    made: Call,
+    outs: &mut Outs,
+) -> Result<(), NoMemory> {
+    if !driver.may_ask() {
+        return Err(NoMemory);
     }
-
-    pub fn start(&mut self) -> Result<(), NoMemory> {
-        self.driver
-            .start(self.alloc, &self.workload, &mut self.outs)
-    }
-
-    pub fn begin_next(&mut self) -> Result<Option<Txn>, NoMemory> {
-        self.driver
-            .begin_next(self.alloc, &self.workload, &mut self.outs)
-    }
-
-    pub fn value(&mut self, txn: u32, ask: u32, value: i64) -> Result<(), NoMemory> {
-        if !self.driver.may_ask() {
-            return Err(NoMemory);
+    match made {
+        Call::Start => driver.start(alloc, workload, outs),
+        Call::BeginNext => {
+            driver.begin_next(alloc, workload, outs)?;
+            Ok(())
         }
-        self.driver
-            .value(&self.workload, Txn(txn), ask, value, &mut self.outs)
-    }
-
-    pub fn down(&mut self, site: u8) -> Result<(), NoMemory> {
-        if !self.driver.may_ask() {
-            return Err(NoMemory);
+        Call::Value(txn, ask, value) => driver.value(workload, Txn(txn), ask, value, outs),
+        Call::Serving(txn, ask, site) => {
+            driver.serving(Txn(txn), ask, Site(site));
+            Ok(())
         }
-        self.driver.down(Site(site), &mut self.outs)
-    }
-
-    pub fn again(&mut self, txn: u32) -> Result<(), NoMemory> {
-        let programs = self.workload.programs.len() as u32;
-        if programs == 0
-            || txn == 0
-            || attempt_of(Txn(txn), programs) >= self.workload.restarts as u32
-        {
-            return Err(NoMemory);
+        Call::Down(site) => driver.down(Site(site), outs),
+        Call::Ended(txn) => {
+            driver.ended(Txn(txn));
+            Ok(())
         }
-        self.driver
-            .again(self.alloc, &self.workload, Txn(txn), &mut self.outs)
-    }
-
-    pub fn serving(&mut self, txn: u32, ask: u32, site: u8) {
-        self.driver.serving(Txn(txn), ask, Site(site));
-    }
-
-    pub fn ended(&mut self, txn: u32) {
-        self.driver.ended(Txn(txn));
-    }
-
-    pub fn reset(&mut self, next: u32) {
-        self.driver.reset(next);
-    }
-
-    pub fn runs(&self, txns: &[Txn]) -> bool {
-        self.driver.running().as_slice() == txns
-    }
-
-    pub fn has_prepared(&self, txns: &[Txn]) -> bool {
-        self.driver.prepared().as_slice() == txns
-    }
-
-    pub fn has_read(&self, txn: u32, pairs: &[(Item, i64)]) -> bool {
-        self.driver.reads(Txn(txn)).as_slice() == pairs
-    }
-
-    pub fn writes(&self, txn: u32, pairs: &[(Item, i64)]) -> bool {
-        self.driver.writes(Txn(txn)).as_slice() == pairs
-    }
-
-    pub fn has_sent(&self, count: usize) -> bool {
-        self.outs.len() == count && !self.driver.is_finished()
-    }
-
-    pub fn begins(&self, k: usize, txn: u32) -> bool {
-        begins(&self.outs, k, txn)
-    }
-
-    pub fn asks(&self, k: usize, txn: u32, ask: u32, item: Item) -> bool {
-        asks(&self.outs, k, txn, ask, item)
-    }
-
-    pub fn ends(&self, k: usize, txn: u32, cause: Cause, reads: &[(Item, i64)]) -> bool {
-        ends(&self.outs, k, txn, cause, reads)
+        Call::Reset(next) => {
+            driver.reset(next);
+            Ok(())
+        }
+        Call::Again(txn) => again(driver, alloc, workload, txn, outs),
     }
 }
 
-/// Whether the letter at a place is a Begin of the transaction.
-fn begins(outs: &Outs, k: usize, txn: u32) -> bool {
-    match outs.as_slice().get(k) {
-        Some((1, 0, Message::Begin { txn: begun })) => *begun == Txn(txn),
-        _ => false,
+/// Makes the calls, and puts what they send into `outs`.
+fn driven(alloc: Global, calls: &[Call], outs: &mut Outs) -> Result<Driver, NoMemory> {
+    let workload = workload(alloc)?;
+    let mut driver = Driver::new(alloc, &workload, Site(1))?;
+    for made in calls {
+        make(&mut driver, alloc, &workload, *made, outs)?;
+    }
+    Ok(driver)
+}
+
+/// What a message says.
+fn told(message: &Message) -> Sent {
+    match message {
+        Message::Begin { txn } => Sent::Begin(txn.0),
+        Message::ReadAsk { txn, ask, item } => Sent::Ask(txn.0, *ask, *item),
+        Message::EndAsk { txn, cause, reads } => match reads.as_slice() {
+            [(item, value)] => Sent::End(txn.0, *cause, *item, *value),
+            _ => Sent::Other,
+        },
+        _ => Sent::Other,
     }
 }
 
-/// Whether the letter at a place asks for an item, under this number.
-fn asks(outs: &Outs, k: usize, txn: u32, ask: u32, item: Item) -> bool {
-    match outs.as_slice().get(k) {
-        Some(
-            (
-                1,
-                0,
-                Message::ReadAsk {
-                    txn: asking,
-                    ask: number,
-                    item: wanted,
-                },
-            ),
-        ) => *asking == Txn(txn) && *number == ask && *wanted == item,
-        _ => false,
+/// What is sent in the calls.
+pub fn all_sent(alloc: Global, calls: &[Call]) -> Result<Vec<Sent>, NoMemory> {
+    let mut outs = Outs::new(alloc);
+    driven(alloc, calls, &mut outs)?;
+    let mut all = Vec::new(alloc);
+    for (server, session, message) in outs.as_slice() {
+        if *server == 1 && *session == 0 {
+            all.push(told(message))?;
+        } else {
+            all.push(Sent::Other)?;
+        }
     }
+    Ok(all)
 }
 
-/// Whether the letter at a place says that the program has ended with this cause, having read this.
-fn ends(outs: &Outs, k: usize, txn: u32, cause: Cause, reads: &[(Item, i64)]) -> bool {
-    match outs.as_slice().get(k) {
-        Some(
-            (
-                1,
-                0,
-                Message::EndAsk {
-                    txn: ended,
-                    cause: why,
-                    reads: read,
-                },
-            ),
-        ) => *ended == Txn(txn) && *why == cause && read.as_slice() == reads,
-        _ => false,
-    }
+/// Whether these run after the calls, and those are prepared.
+pub fn runs(
+    alloc: Global,
+    calls: &[Call],
+    running: &[Txn],
+    prepared: &[Txn],
+) -> Result<bool, NoMemory> {
+    let driver = driven(alloc, calls, &mut Outs::new(alloc))?;
+    Ok(
+        !driver.is_finished()
+            && driver.running().as_slice() == running
+            && driver.prepared().as_slice() == prepared,
+    )
+}
+
+/// Whether after the calls the transaction has read and writes this.
+pub fn is_done(
+    alloc: Global,
+    calls: &[Call],
+    txn: Txn,
+    reads: &[(Item, i64)],
+    writes: &[(Item, i64)],
+) -> Result<bool, NoMemory> {
+    let driver = driven(alloc, calls, &mut Outs::new(alloc))?;
+    Ok(driver.reads(txn).as_slice() == reads && driver.writes(txn).as_slice() == writes)
 }
