@@ -90,7 +90,8 @@ pub fn closes(tables: &Tables, found: &Found, ask: &Ask) -> bool
     ensures { result ≡ words.closes tables.now found.now.0 (asked ask.now) }
 {
     match ask {
-        Ask::Read { txn, item, .. } => found.has(*txn) || has_writer(tables, found.as_slice(), *item),
+        Ask::Read { txn, item, .. } => found.has(*txn)
+            || has_writer(tables, found.as_slice(), *item),
         Ask::Commit { txn, writes, .. } => {
             found.has(*txn) || any_actor(tables, found.as_slice(), writes.as_slice())
         }
