@@ -25,7 +25,7 @@ use Rattle.raid_rules.proofs.Edges.{same_item, path_map, leads_iff}
 use Rattle.raid_rules.proofs.Paths.{join}
 use Rattle.raid_rules.proofs.Last.{edge_stays, edge_new, path_last}
 use Rattle.raid_conflict.specs.declared.tables.Tables.{Tables}
-use Rattle.raid_conflict.specs.Tables.{chain_at, mark, all_actions, Tells}
+use Rattle.raid_conflict.specs.Tables.{mark, all_actions, Tells}
 use Rattle.raid_conflict.specs.Search.{Step, closes, has_acted, has_written}
 use Rattle.raid_conflict.specs.Listed.{reaches_before}
 use Rattle.raid_rules.specs.Conflict.{reached as reachable}
@@ -189,7 +189,7 @@ hit_closes view (writing w k writes) t s found c = elim (cases_Bool (has_txn fou
 ]
 
 -- who is reached isn't aborted
-reached_stays : (view : List Noted) → {t u : Txn} → Path (Edge view) t u → has_aborted view u ≡ false
+pub reached_stays : (view : List Noted) → {t u : Txn} → Path (Edge view) t u → has_aborted view u ≡ false
 reached_stays view (one e) = e.stays_too
 reached_stays view (cons e p) = reached_stays view p
 

@@ -1,3 +1,4 @@
+pub mod Alive
 pub mod Arranged
 pub mod Cycles
 pub mod Extend
@@ -5,5 +6,7 @@ pub mod Latest
 pub mod Lists
 pub mod Marks
 pub mod Reached
+pub mod Runs
+pub mod Spread
 pub mod Stand
 pub mod Steps

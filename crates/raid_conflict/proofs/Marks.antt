@@ -6,7 +6,8 @@ use Rattle.std.proofs.lemmas.Grind.{common_steps}
 use Rattle.raid_base.specs.declared.names.Txn.{Txn}
 use Rattle.raid_base.specs.Names.{is_txn, has_txn}
 use Rattle.raid_conflict.specs.Found.{is_marked, Agrees, Longer}
-use Rattle.std.proofs.lemmas.Bool.{cases_Bool}
+use Rattle.std.proofs.lemmas.Bool.{cases_Bool, true≢false}
+use Rattle.raid_rules.specs.Committed.{AllOnce}
 use Rattle.raid_rules.proofs.Push.{same_txn}
 use Rattle.std.proofs.lemmas.List.{get_or_append_left}
 
@@ -65,6 +66,26 @@ pub agrees_none : (marks after : List Bool) (list : List Txn) → Agrees marks l
 agrees_none marks after list a h =
     let none : (t : Txn) → is_marked after t ≡ false = λ t. grind (arith, common_steps, h t, a.marked t) in
     record { marked = none; counted = sym (count_none after (λ k. none (record { 0 = k }))) }
+
+-- a list in which each stands once has as many as are marked, where just those are
+pub once_marked : (ts : List Txn) (marks : List Bool) → AllOnce ts → ((t : Txn) → is_marked marks t ≡ has_txn ts t) → length ts ≡ marked marks
+once_marked [] marks o h = sym (count_none marks (λ k. h (record { 0 = k })))
+once_marked (t ∷ ts) marks o h =
+    let here : get_or marks t.0 false ≡ true = h t ∙ grind (arith, common_steps) in
+    let l : t.0 < length marks = marked_below marks t.0 here in
+    let a : weight (get_or marks t.0 false) ≡ 1 = ap weight here in
+    let rest = once_marked ts (set marks t.0 false) o.1 (λ u. elim (cases_Bool (t.0 == u.0)) [
+      | inl q ↦ let s = same_txn t u q in
+          let gone : get_or (set marks t.0 false) t.0 false ≡ false = grind (arith, common_steps, l) in
+          subst (λ z. get_or (set marks t.0 false) z.0 false ≡ has_txn ts z) s (gone ∙ sym o.0)
+      | inr q ↦ grind (arith, common_steps, h u, q)
+    ]) in
+    omega (arith, a, rest, sum_by-set weight marks t.0 false false l)
+  where
+    marked_below : (ms : List Bool) (k : ℕ) → get_or ms k false ≡ true → k < length ms
+    marked_below [] k e = absurd (true≢false (sym e))
+    marked_below (m ∷ ms) zero e = omega arith
+    marked_below (m ∷ ms) (suc k) e = omega (arith, marked_below ms k e)
 
 -- who is in a list after one was added, if it wasn't there
 pub has_added : (list : List Txn) (t u : Txn) → has_txn (if has_txn list t then list else list ++ t ∷ []) u ≡ (has_txn list u || is_txn u t)

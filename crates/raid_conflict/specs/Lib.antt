@@ -1,5 +1,6 @@
 pub mod Arrange
 pub mod Found
 pub mod Listed
+pub mod Live
 pub mod Search
 pub mod Tables

@@ -1,5 +1,5 @@
 -- What the tables of a graph say of a list of noted entries.
-use Rattle.std.specs.Prelude.{◌≡◌, ◌+◌, ◌-◌, ◌<◌, ℕ, ℤ, true, false, List, [], ◌++◌, filter, flat_map, map, slice_index_or, slice_get, vec_len, vec_capacity, if◌then◌else◌, AllPairs}
+use Rattle.std.specs.Prelude.{◌≡◌, ◌+◌, ◌-◌, ℕ, ℤ, true, false, List, [], ◌++◌, filter, flat_map, map, slice_index_or, slice_get, vec_len, vec_capacity, if◌then◌else◌}
 use Rattle.std.specs.Option.{option_map_or}
 use Rattle.raid_base.specs.declared.names.Txn.{Txn}
 use Rattle.raid_base.specs.declared.names.Item.{Item}
@@ -50,11 +50,6 @@ pub record Tells (t : Tables) (view : List Noted) : Type 0 where
   pub stamps : (u : Txn) → (mark t u).stamp ≡ stamp view u
   pub aborted : (u : Txn) → (mark t u).aborted ≡ has_aborted view u
   pub committed : t.committed.items ≡ committed view
-
--- the tables tell what the list says, and its numbers ascend
-pub record Stands (t : Tables) (view : List Noted) : Type 0 where
-  pub tells : Tells t view
-  pub ascends : AllPairs (λ m n. m.at < n.at) view
 
 -- the tables answer as before
 pub record AnswersAlike (t s : Tables) : Type 0 where

@@ -1,6 +1,7 @@
-ghost use Rattle.std.specs.Prelude.{◌≡◌, ◌<◌, ◌≤◌, ◌+◌, ◌&&◌, ◌||◌, not, true, false, max, ℕ, [], ◌∷◌, ◌++◌, length, vec_len, vec_capacity, count_by, slice_index_or, IfOk, OnOk, OnErr, if◌then◌else◌};
+ghost use Rattle.std.specs.Prelude.{◌≡◌, ◌<◌, ◌≤◌, ◌+◌, ◌&&◌, ◌||◌, not, true, false, max, ℕ, List, [], ◌∷◌, ◌++◌, length, vec_len, vec_capacity, count_by, slice_index_or, IfOk, OnOk, OnErr, if◌then◌else◌};
 ghost use Rattle.raid_base.specs.declared.names.Txn.{Txn};
 ghost use Rattle.raid_base.specs.Names.{is_txn, has_txn};
+ghost use Rattle.raid_rules.specs.Committed.{AllOnce};
 ghost use Rattle.raid_conflict.specs.Found.{is_marked, Agrees, Longer};
 
 use raid_base::{NoMemory, Txn};
@@ -116,10 +117,11 @@ impl Found {
         mark(&mut self.marks, &mut self.list, txn);
     }
 
-    /// How many were found: no more than there are places.
+    /// How many were found: no more than there are places, and each was found once.
     pub fn len(&self) -> usize
         ensures is { result ≡ length self.now.0 }
         ensures few { result ≤ self.now.1 }
+        ensures once { (ts : List Txn) → AllOnce ts → ((t : Txn) → has_txn self.now.0 t ≡ has_txn ts t) → result ≡ length ts }
     {
         self.list.len()
     }

@@ -9,7 +9,9 @@ mod closing;
 mod found;
 pub mod graph;
 pub mod laws;
+mod running;
 mod search;
+mod state;
 mod tables;
 
 pub use graph::Graph;

@@ -5,6 +5,7 @@ ghost use Rattle.raid_base.specs.Names.{has_txn};
 ghost use Rattle.raid_rules.specs.declared.conflict.Action.{Action};
 ghost use Rattle.raid_rules.specs.Conflict.{Path};
 ghost use Rattle.raid_conflict.specs.Found.{Longer};
+ghost use Rattle.raid_conflict.specs.Live.{Reached, Within};
 ghost use Rattle.raid_conflict.specs.Search as words;
 ghost use Rattle.raid_conflict.specs.Tables.{chain_at};
 
@@ -119,6 +120,34 @@ pub fn reach(tables: &Tables, found: &mut Found, from: Txn)
     while next < found.len() {
         let txn = found.get(next);
         step(tables, found, txn);
+        next += 1;
+    }
+}
+
+/// Finds the transactions.
+fn find_each(found: &mut Found, txns: &[Txn])
+    requires { Within found.old.1 txns.now }
+    ensures found { (v : Txn) → has_txn found.new.0 v ≡ (has_txn found.old.0 v || has_txn txns.now v) }
+    ensures places { found.new.1 ≡ found.old.1 }
+{
+    for txn in txns {
+        found.add(*txn);
+    }
+}
+
+/// Finds the transactions and all that they reach.
+pub fn reach_all(tables: &Tables, found: &mut Found, from: &[Txn])
+    requires empty { found.old.0 ≡ [] }
+    requires places { vec_len tables.now.own ≤ found.old.1 }
+    requires within { Within found.old.1 from.now }
+    ensures reached { (v : Txn) → (has_txn found.new.0 v ≡ true) ↔ Reached tables.now from.now v }
+    ensures places { found.new.1 ≡ found.old.1 }
+{
+    find_each(found, from);
+    let mut next = 0;
+    while next < found.len() {
+        let reached = found.get(next);
+        step(tables, found, reached);
         next += 1;
     }
 }

@@ -3,7 +3,7 @@ use Rattle.std.specs.Prelude.{List}
 use Rattle.raid_base.specs.declared.entry.Noted.{Noted}
 use Rattle.raid_tables.specs.Running.{KnowsRunning}
 use Rattle.raid_tables.specs.Commits.{KnowsCommits}
-use Rattle.raid_conflict.specs.Tables.{Stands}
+use Rattle.raid_conflict.specs.Live.{Stands}
 use Rattle.raid_graph.specs.declared.control.GraphControl.{GraphControl}
 
 -- its graph stands for the view, and each of its tables answers as the view does
