@@ -5,7 +5,7 @@ use Rattle.raid_tables.specs.Running.{KnowsRunning}
 use Rattle.raid_tables.specs.Readers.{KnowsReaders}
 use Rattle.raid_tables.specs.Stamps.{KnowsStamps}
 use Rattle.raid_tables.specs.Commits.{KnowsCommits}
-use Rattle.raid_conflict.specs.Tables.{Stands}
+use Rattle.raid_conflict.specs.Live.{Stands}
 use Rattle.raid_generic.specs.declared.control.GenericControl.{GenericControl}
 
 -- its graph stands for the view, and each of its tables answers as the view does

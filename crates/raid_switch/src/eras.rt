@@ -8,7 +8,7 @@ ghost use Rattle.raid_base.specs.declared.verdict.Kind.{Kind};
 ghost use Rattle.raid_rules.specs.Verdicts.{asked, verdict_of};
 ghost use Rattle.raid_rules.specs.History.{noted, has_ended};
 ghost use Rattle.raid_legal.specs.InForce.{is_tied};
-ghost use Rattle.raid_conflict.specs.Tables.{Stands};
+ghost use Rattle.raid_conflict.specs.Live.{Stands};
 ghost use Rattle.raid_rules.specs.Order.{IsInOrder, Fits, MayNote};
 ghost use Rattle.raid_control.specs.Carried.{IsCarry, carried, is_generic};
 ghost use Rattle.raid_switch.specs.Force.{Each, AreInForce, of_each, verdict_by, blocks_by, grown, without};

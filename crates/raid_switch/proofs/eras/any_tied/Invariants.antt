@@ -3,7 +3,7 @@ use Rattle.std.specs.List.{list_any}
 use Rattle.raid_base.specs.declared.entry.Noted.{Noted}
 use Rattle.raid_rules.specs.History.{noted, has_ended}
 use Rattle.raid_legal.specs.InForce.{is_tied}
-use Rattle.raid_conflict.specs.Tables.{Stands}
+use Rattle.raid_conflict.specs.Live.{Stands}
 use Rattle.raid_switch.proofs.eras.any_tied.Given as goal
 
 -- none of the first of the list is tied, and the graph stands for what it stood for
