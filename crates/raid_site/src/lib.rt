@@ -1,6 +1,8 @@
 //! The server of one site: what it does with one letter.
 #![tactic(auto)]
 
+mod fits;
+mod hearing;
 mod holding;
 mod monitor_rows;
 pub mod parts;

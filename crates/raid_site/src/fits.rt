@@ -1,0 +1,111 @@
+//! Which letters fit: they come from a server that may send them, name only what the workload has, and ask of the site what it
+//! can do.
+
+ghost use Rattle.std.specs.Prelude.{◌≡◌, ◌+◌, ◌*◌, ◌&&◌, nat_le, length};
+ghost use Rattle.std.specs.List.{list_all};
+ghost use Rattle.raid_steps.specs.Copies as copying;
+ghost use Rattle.raid_steps.specs.Fits as steps;
+ghost use Rattle.raid_site.specs.Whole.{state_of};
+
+use crate::parts::Parts;
+use raid_base::{Item, Pairs, Site, Txn, Vector};
+use raid_message::Message;
+use raid_workload::Workload;
+
+/// Whether the workload has so many transactions, attempts counted.
+fn counts(workload: &Workload, number: u32) -> bool
+    ensures { result ≡ nat_le number (length workload.now.programs * (workload.now.restarts + 1)) }
+{
+    let attempts = workload.restarts as u64 + 1;
+    let all = (workload.programs.len() as u64).saturating_mul(attempts);
+    number as u64 <= all
+}
+
+/// Whether the workload has the transaction, attempts counted.
+pub fn knows_txn(workload: &Workload, txn: Txn) -> bool
+    ensures { result ≡ steps.knows_txn workload.now txn }
+{
+    1 <= txn.0 && counts(workload, txn.0)
+}
+
+/// Whether the workload has the site.
+pub fn knows_site(workload: &Workload, site: Site) -> bool
+    ensures { result ≡ steps.knows_site workload.now site }
+{
+    1 <= site.0 && site.0 <= workload.sites
+}
+
+/// Whether the workload has the item.
+pub fn knows_item(workload: &Workload, item: Item) -> bool
+    ensures { result ≡ steps.knows_item workload.now item }
+{
+    (item.0 as usize) < workload.items.len()
+}
+
+/// Whether the workload has each item of the pairs.
+pub fn knows_pairs(workload: &Workload, pairs: &[(Item, i64)]) -> bool
+    ensures { result ≡ steps.knows_pairs workload.now pairs.now }
+{
+    pairs.iter().all(|pair| knows_item(workload, pair.0))
+}
+
+/// Whether a welcome fits the workload.
+fn fits_welcome(workload: &Workload, vector: Vector, next: u32) -> bool
+    ensures { result ≡ (steps.knows_vector workload.now vector && nat_le next (length workload.now.programs * (workload.now.restarts + 1))) }
+{
+    vector.count == workload.sites && counts(workload, next)
+}
+
+/// Whether a read fits the workload.
+fn fits_read(workload: &Workload, txn: Txn, item: Item, home: Site) -> bool
+    ensures { result ≡ (steps.knows_txn workload.now txn && steps.knows_item workload.now item && steps.knows_site workload.now home) }
+{
+    knows_txn(workload, txn) && knows_item(workload, item) && knows_site(workload, home)
+}
+
+/// Whether the message is one of the sequencer to a site, and fits the workload.
+pub fn is_of_sequencer(workload: &Workload, message: &Message) -> bool
+    ensures { result ≡ steps.is_of_sequencer workload.now message.now }
+{
+    match message {
+        Message::Welcome { vector, next } => fits_welcome(workload, *vector, *next),
+        Message::ReadDo {
+            txn,
+            item,
+            home,
+            ..
+        } => fits_read(workload, *txn, *item, *home),
+        Message::Serving { txn, site, .. } => {
+            knows_txn(workload, *txn) && knows_site(workload, *site)
+        }
+        Message::Apply { txn, .. } | Message::Done { txn } | Message::Drop { txn, .. } => {
+            knows_txn(workload, *txn)
+        }
+        Message::DownNote { site } | Message::UpNote { site, .. } => knows_site(workload, *site),
+        Message::CopyDo { item, target, .. } => {
+            knows_item(workload, *item) && knows_site(workload, *target)
+        }
+        _ => false,
+    }
+}
+
+/// Whether the message is one of a site to a site, and fits the workload.
+pub fn is_of_site(workload: &Workload, message: &Message) -> bool
+    ensures { result ≡ steps.is_of_site workload.now message.now }
+{
+    match message {
+        Message::Value { txn, .. } | Message::Vote { txn, .. } => knows_txn(workload, *txn),
+        Message::Prepare { txn, writes } => {
+            knows_txn(workload, *txn) && knows_pairs(workload, writes.as_slice())
+        }
+        Message::CopyValue { item, .. } => knows_item(workload, *item),
+        _ => false,
+    }
+}
+
+/// Whether the site holds each item of the pairs.
+fn holds_all(parts: &Parts, pairs: &[(Item, i64)]) -> bool
+    ensures { result ≡ list_all (λ p. copying.holds_copy (state_of parts.now) p.0) pairs.now }
+{
+    pairs.iter().all(|pair| parts.copies.holds(pair.0))
+}

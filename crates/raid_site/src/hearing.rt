@@ -1,0 +1,110 @@
+//! Which letter has which row.
+
+ghost use Rattle.std.specs.Prelude.{◌≡◌, ◌≤◌, ◌<◌, ◌&&◌, [], IsTrue, OnOk};
+ghost use Rattle.raid_steps.specs.Fits.{is_of_sequencer, is_of_site};
+ghost use Rattle.raid_steps.specs.Site as steps;
+ghost use Rattle.raid_driver.specs.Drive.{may_ask};
+ghost use Rattle.raid_site.specs.Whole.{turn, state_of, IsLive};
+
+use crate::parts::Parts;
+use crate::peer_rows::{copied_row, prepare_row, refuse, value_row, vote_row};
+use crate::sequencer_rows::{
+    apply_row, copy_row, done_row, down_row, drop_row, read_row, serving_row, up_row, welcome_row,
+};
+use raid_base::{NoMemory, Site};
+use raid_message::{Letter, Message, Outs};
+use raid_workload::Workload;
+use std::alloc::Global;
+
+/// A letter of the sequencer that fits.
+fn sequencer_row(
+    parts: &mut Parts,
+    alloc: Global,
+    workload: &Workload,
+    message: &Message,
+    outs: &mut Outs,
+) -> Result<(), NoMemory>
+    requires live { IsLive workload.now parts.old }
+    requires asks { IsTrue (may_ask parts.old.driver.running) }
+    requires known { IsTrue (is_of_sequencer workload.now message.now) }
+    requires here { IsTrue (steps.fits_here workload.now (state_of parts.old) message.now) }
+    ensures ok { OnOk result (turn parts.new outs.new ≡ steps.sequencer_row workload.now (turn parts.old outs.old) message.now) }
+    ensures live { OnOk result (IsLive workload.now parts.new) }
+{
+    match message {
+        Message::Welcome { vector, next } => {
+            welcome_row(parts, alloc, workload, *vector, *next, outs)
+        }
+        Message::ReadDo {
+            txn,
+            ask,
+            item,
+            home,
+            home_session,
+        } => read_row(
+            parts,
+            alloc,
+            workload,
+            *txn,
+            *ask,
+            *item,
+            *home,
+            *home_session,
+            outs,
+        ),
+        Message::Serving { txn, ask, site } => {
+            serving_row(parts, workload, *txn, *ask, *site, outs);
+            Ok(())
+        }
+        Message::Apply { txn, number } => apply_row(parts, workload, *txn, *number, outs),
+        Message::Done { txn } => done_row(parts, alloc, workload, *txn, outs),
+        Message::Drop { txn, again } => drop_row(parts, alloc, workload, *txn, *again, outs),
+        Message::DownNote { site } => down_row(parts, workload, *site, outs),
+        Message::UpNote { site, session } => {
+            up_row(parts, alloc, workload, *site, *session, outs)
+        }
+        Message::CopyDo {
+            item,
+            target,
+            target_session,
+        } => copy_row(parts, *item, *target, *target_session, outs),
+        _ => Ok(()),
+    }
+}
+
+/// A letter of another site that fits, sent in a session of it.
+fn peer_row(
+    parts: &mut Parts,
+    alloc: Global,
+    workload: &Workload,
+    site: Site,
+    session: u32,
+    message: &Message,
+    outs: &mut Outs,
+) -> Result<(), NoMemory>
+    requires live { IsLive workload.now parts.old }
+    requires asks { IsTrue (may_ask parts.old.driver.running) }
+    requires least { 1 ≤ site.0 }
+    requires most { site.0 ≤ 8 }
+    ensures ok { OnOk result (turn parts.new outs.new ≡ steps.peer_row workload.now (turn parts.old outs.old) site session message.now) }
+    ensures live { OnOk result (IsLive workload.now parts.new) }
+{
+    match message {
+        Message::Value { txn, ask, value } => {
+            value_row(parts, alloc, workload, *txn, *ask, *value, outs)
+        }
+        Message::Prepare { txn, writes } => {
+            prepare_row(parts, workload, *txn, writes, site, session, outs)
+        }
+        Message::Vote { txn, answer } => {
+            vote_row(parts, workload, *txn, site, session, *answer, outs);
+            Ok(())
+        }
+        Message::CopyValue {
+            item,
+            value,
+            version,
+        } => copied_row(parts, workload, *item, *value, *version, outs),
+        _ => Ok(()),
+    }
+}
