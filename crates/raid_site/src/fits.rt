@@ -1,13 +1,16 @@
 //! Which letters fit: they come from a server that may send them, name only what the workload has, and ask of the site what it
 //! can do.
 
-ghost use Rattle.std.specs.Prelude.{◌≡◌, ◌+◌, ◌*◌, ◌&&◌, nat_le, length};
+ghost use Rattle.std.specs.Prelude.{◌≡◌, ◌+◌, ◌*◌, ◌&&◌, ◌==◌, nat_le, not, false, length};
 ghost use Rattle.std.specs.List.{list_all};
 ghost use Rattle.raid_steps.specs.Copies as copying;
+ghost use Rattle.raid_legal.specs.Seen.{attempt};
 ghost use Rattle.raid_steps.specs.Fits as steps;
+ghost use Rattle.raid_steps.specs.Site as rows;
 ghost use Rattle.raid_site.specs.Whole.{state_of};
 
 use crate::parts::Parts;
+use crate::programs::both;
 use raid_base::{Item, Pairs, Site, Txn, Vector};
 use raid_message::Message;
 use raid_workload::Workload;
@@ -108,4 +111,49 @@ fn holds_all(parts: &Parts, pairs: &[(Item, i64)]) -> bool
     ensures { result ≡ list_all (λ p. copying.holds_copy (state_of parts.now) p.0) pairs.now }
 {
     pairs.iter().all(|pair| parts.copies.holds(pair.0))
+}
+
+/// Which attempt at its program the transaction is, counted from 0.
+fn attempt_at(workload: &Workload, txn: Txn) -> usize
+    ensures { result ≡ attempt workload.now txn }
+{
+    let programs = workload.programs.len();
+    if programs == 0 {
+        return 0;
+    }
+    txn.0.saturating_sub(1) as usize / programs
+}
+
+/// Whether the transaction has an attempt left where it is to be tried again.
+fn has_attempt_left(workload: &Workload, txn: Txn, again: bool) -> bool
+    ensures { result ≡ not (again && attempt workload.now txn == workload.now.restarts) }
+{
+    let last = attempt_at(workload, txn) == workload.restarts as usize;
+    !both(again, last)
+}
+
+/// Whether the letter fits the site as it is: it holds the items, has writes staged to apply, runs nothing when it is welcomed, and
+/// has an attempt left where it is to try again.
+pub fn fits_here(parts: &Parts, workload: &Workload, message: &Message) -> bool
+    requires { parts.now.driver.finished ≡ false }
+    ensures { result ≡ rows.fits_here workload.now (state_of parts.now) message.now }
+{
+    match message {
+        Message::ReadDo { item, .. } => parts.copies.holds(*item),
+        Message::CopyDo { item, .. } => parts.copies.holds(*item),
+        Message::CopyValue { item, .. } => parts.copies.holds(*item),
+        Message::Prepare { writes, .. } => holds_all(parts, writes.as_slice()),
+        Message::Apply { txn, .. } => parts.copies.is_staged(*txn),
+        Message::Welcome { .. } => runs_nothing(parts),
+        Message::Drop { txn, again } => has_attempt_left(workload, *txn, *again),
+        _ => true,
+    }
+}
+
+/// Whether no program runs.
+fn runs_nothing(parts: &Parts) -> bool
+    requires { parts.now.driver.finished ≡ false }
+    ensures { result ≡ (length (state_of parts.now).running == 0) }
+{
+    parts.driver.running().is_empty()
 }
