@@ -3,3 +3,4 @@ pub mod Going
 pub mod Rows
 pub mod Each
 pub mod Holders
+pub mod Senders

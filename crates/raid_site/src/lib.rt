@@ -4,6 +4,7 @@
 mod fits;
 mod hearing;
 mod holding;
+pub mod letters;
 mod monitor_rows;
 pub mod parts;
 mod peer_rows;
