@@ -1,0 +1,4 @@
+pub mod Answered
+pub mod Coming
+pub mod Rules
+pub mod Up

@@ -1,0 +1,103 @@
+//! The entries that may have to come next.
+
+ghost use Rattle.std.specs.Prelude.{◌≡◌, nat_le, not, ◌&&◌, Some, None, option_map, find, if◌then◌else◌};
+ghost use Rattle.raid_base.specs.declared.entry.Act.TheVariants as acts;
+ghost use Rattle.raid_base.specs.declared.entry.Entry.TheVariants as entries;
+ghost use Rattle.raid_workload.specs.Parts as parts;
+ghost use Rattle.raid_rules.specs.History as rules;
+ghost use Rattle.raid_rules.specs.Sessions as sessions;
+ghost use Rattle.raid_legal.specs.Seen as seen;
+ghost use Rattle.raid_legal.specs.InForce.{InForce, is_joint};
+ghost use Rattle.raid_legal.specs.Forced as words;
+ghost use Rattle.raid_placed.specs.Placed.{Placed};
+
+use crate::homes::{home, is_up};
+use raid_base::{Act, Cause, Entry, Txn, TxnList, Vector};
+use raid_history::History;
+use raid_workload::{Switch, Workload};
+
+/// The abort of a transaction that asked for nothing, where there is one to abort.
+fn abort_of(found: Option<Txn>, cause: Cause) -> Option<Entry>
+    ensures { result ≡ option_map (λ t. entries.Abort t cause acts.Nothing) found }
+{
+    match found {
+        Some(txn) => Some(Entry::Abort {
+            txn,
+            cause,
+            act: Act::Nothing,
+        }),
+        None => None,
+    }
+}
+
+/// The first of the transactions whose home is down in the vector.
+fn first_homeless(workload: &Workload, vector: Vector, running: &[Txn]) -> Option<Txn>
+    ensures { result ≡ find (λ t. not (sessions.is_site_up vector (parts.home workload.now t))) running.now }
+{
+    for txn in running {
+        if !is_up(vector, home(workload, *txn)) {
+            return Some(*txn);
+        }
+    }
+    None
+}
+
+/// The Abort of the least running transaction whose home is down, if there is one.
+pub fn home_down(workload: &Workload, history: &History, vector: Vector) -> Option<Entry>
+    ensures { Placed workload.now history.now → vector ≡ seen.vector workload.now (rules.noted history.now) → result ≡ words.home_down workload.now (rules.noted history.now) }
+{
+    let found = first_homeless(workload, vector, history.running().as_slice());
+    abort_of(found, Cause::HomeDown)
+}
+
+/// The first of the transactions that still runs.
+fn first_running(history: &History, off: &[Txn]) -> Option<Txn>
+    ensures { result ≡ find (rules.is_running (rules.noted history.now)) off.now }
+{
+    for txn in off {
+        if history.is_running(*txn) {
+            return Some(*txn);
+        }
+    }
+    None
+}
+
+/// The Abort of the least transaction that the last switch, of this number, aborts and that still runs, if there is one.
+pub fn switch_off(history: &History, switches: u8, off: &TxnList) -> Option<Entry>
+    ensures { (f : InForce) → switches ≡ f.switches → off.now ≡ f.off → result ≡ words.switch_off (rules.noted history.now) f }
+{
+    let found = first_running(history, off.as_slice());
+    abort_of(found, Cause::SwitchOff(switches))
+}
+
+/// The SwitchOn of the switch with this number, where its trigger has come and one controller is in force.
+fn come_on(next: Switch, number: u8, history: &History, joint: bool) -> Option<Entry>
+    ensures { result ≡ (if nat_le next.trigger (rules.ends (rules.noted history.now)) && not joint then Some (entries.SwitchOn number next.kind next.method) else None) }
+{
+    if next.trigger <= history.ends() && !joint {
+        Some(Entry::SwitchOn {
+            switch: number,
+            kind: next.kind,
+            method: next.method,
+        })
+    } else {
+        None
+    }
+}
+
+/// The SwitchOn of the switch that follows so many, once its trigger has come, and not while two controllers are in force.
+#[tactic(auto, using(crate::proofs::Rules::few_switches))]
+pub fn switch_on(
+    workload: &Workload,
+    history: &History,
+    switches: u8,
+    joint: bool,
+) -> Option<Entry>
+    ensures { (f : InForce) → switches ≡ f.switches → joint ≡ is_joint f → result ≡ words.switch_on workload.now (rules.noted history.now) f }
+{
+    if switches as usize >= workload.switches.len() {
+        return None;
+    }
+    let next = *workload.switches.get(switches as usize);
+    come_on(next, switches + 1, history, joint)
+}
