@@ -19,8 +19,8 @@ ghost use Rattle.raid_waits.specs.Waiting.{is_among};
 use crate::homes::known_home;
 use crate::sites::{site_refusal, up_holders};
 use raid_base::{
-    Act, Cause, Duplicate, Entry, Item, NoMemory, Pairs, Refusal, Request, Site, Sites, Txn, Vector,
-    Verdict,
+    Act, Cause, Duplicate, Entry, Item, NoMemory, Pairs, Refusal, Request, Site, Sites, Txn,
+    Vector, Verdict,
 };
 use raid_control::Blocks;
 use raid_faillock::FailLocks;
@@ -195,6 +195,8 @@ pub fn answer_commit<B: Blocks>(
     let vector = locks.vector();
     match site_refusal(workload, vector, request) {
         Some(why) => refused(alloc, txn, why, request),
-        None => decided(alloc, workload, vector, waits, blocks, txn, request, verdict),
+        None => decided(
+            alloc, workload, vector, waits, blocks, txn, request, verdict,
+        ),
     }
 }

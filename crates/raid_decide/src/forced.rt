@@ -87,12 +87,7 @@ fn come_on(next: Switch, number: u8, history: &History, joint: bool) -> Option<E
 
 /// The SwitchOn of the switch that follows so many, once its trigger has come, and not while two controllers are in force.
 #[tactic(auto, using(crate::proofs::Rules::few_switches))]
-pub fn switch_on(
-    workload: &Workload,
-    history: &History,
-    switches: u8,
-    joint: bool,
-) -> Option<Entry>
+pub fn switch_on(workload: &Workload, history: &History, switches: u8, joint: bool) -> Option<Entry>
     ensures { (f : InForce) → switches ≡ f.switches → joint ≡ is_joint f → result ≡ words.switch_on workload.now (rules.noted history.now) f }
 {
     if switches as usize >= workload.switches.len() {
