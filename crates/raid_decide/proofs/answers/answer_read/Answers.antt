@@ -11,5 +11,5 @@ pub returns : goal.returns
 returns c = λ p o v.
     c.served.ensures
     ∙ ap (λ (found : Option Site). served c.args.txn c.args.item found c.args.verdict)
-      (c.source_for-source.ensures c.args.workload.now.sites (placement c.args.workload.now) p o ∙ ap (λ (s : Site). source_for (sources c.args.workload.now p c.args.item) s) c.known_home-home.ensures.is)
+    (c.source_for-source.ensures c.args.workload.now.sites (placement c.args.workload.now) p o ∙ ap (λ (s : Site). source_for (sources c.args.workload.now p c.args.item) s) c.known_home-home.ensures.is)
     ∙ ap (λ (z : Verdict). served c.args.txn c.args.item (source_for (sources c.args.workload.now p c.args.item) (home c.args.workload.now c.args.txn)) z) v

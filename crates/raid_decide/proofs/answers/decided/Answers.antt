@@ -16,8 +16,8 @@ pub returns-in-Grant-clause-answer : goal.returns-in-Grant-clause-answer
 returns-in-Grant-clause-answer g c =
     if_ok c.granted.result
     (λ e h p v s q.
-        h ∙ ap (λ ss. Some (Commit c.args.txn c.args.request.now ss)) (c.up_holders-applied.ensures p v ∙ ap (up_holders c.args.workload.now p) c.as_slice.ensures)
-        ∙ ap (decided c.args.workload.now p c.args.txn c.args.request.now) (sym c.in-Grant.is))
+    h ∙ ap (λ ss. Some (Commit c.args.txn c.args.request.now ss)) (c.up_holders-applied.ensures p v ∙ ap (up_holders c.args.workload.now p) c.as_slice.ensures)
+    ∙ ap (decided c.args.workload.now p c.args.txn c.args.request.now) (sym c.in-Grant.is))
     c.granted.ensures
 
 pub returns-in-Wait-clause-answer : goal.returns-in-Wait-clause-answer

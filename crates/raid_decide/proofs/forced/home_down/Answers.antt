@@ -15,7 +15,7 @@ pub returns : goal.returns
 returns c = λ placed e.
     c.abort_of.ensures
     ∙ ap (option_map (λ t. Abort t HomeDown acts.Nothing))
-      (c.first_homeless-found.ensures
-      ∙ ap (λ (ts : List Txn). find (λ t. not (is_site_up c.args.vector (home c.args.workload.now t))) ts)
-        (c.as_slice.ensures ∙ placed_running_list c.args.workload.now c.args.history.now c.running.result.now placed c.running.ensures.has c.running.ensures.ascends)
-      ∙ ap (λ (v : List ℕ). find (λ t. not (is_site_up v (home c.args.workload.now t))) (running c.args.workload.now (noted c.args.history.now))) e)
+    (c.first_homeless-found.ensures
+    ∙ ap (λ (ts : List Txn). find (λ t. not (is_site_up c.args.vector (home c.args.workload.now t))) ts)
+    (c.as_slice.ensures ∙ placed_running_list c.args.workload.now c.args.history.now c.running.result.now placed c.running.ensures.has c.running.ensures.ascends)
+    ∙ ap (λ (v : List ℕ). find (λ t. not (is_site_up v (home c.args.workload.now t))) (running c.args.workload.now (noted c.args.history.now))) e)
