@@ -9,7 +9,7 @@ use Rattle.raid_base.specs.declared.entry.Act.TheVariants as acts
 use Rattle.raid_base.specs.declared.entry.Cause.TheVariants as causes
 use Rattle.raid_base.specs.declared.entry.Noted.{Noted}
 use Rattle.raid_workload.specs.declared.workload.Workload.{Workload}
-use Rattle.raid_rules.specs.History.{waiting}
+use Rattle.raid_rules.specs.History.{waiting, is_waiting}
 use Rattle.raid_legal.specs.Answers.{waits, closes_waits}
 use Rattle.raid_waits.specs.Waiting.{is_among}
 
@@ -28,3 +28,6 @@ put_off_by w p t request rs among closes a e c =
 
 pub waits_already : (w : Workload) (p : List Noted) (t : Txn) (request : Request) (rs : List (Txn × Request)) → is_among rs t ≡ true → rs ≡ waiting p → None ≡ waits w p t request
 waits_already w p t request rs a e = put_off_by w p t request rs true (closes_waits w p t request) a e (λ i. closes_waits w p t request)
+
+pub waits_on : (w : Workload) (p : List Noted) (t : Txn) (request : Request) → is_waiting p t ≡ true → None ≡ waits w p t request
+waits_on w p t request a = waits_already w p t request (waiting p) a (λ i. waiting p)

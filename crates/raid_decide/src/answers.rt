@@ -198,5 +198,48 @@ pub fn answer_commit<B: Blocks>(
         None => decided(
             alloc, workload, vector, waits, blocks, txn, request, verdict,
         ),
+<<<<<<< HEAD
+=======
+    }
+}
+
+/// The answer to a request that waits, where the sites allow it, given the verdict: none while it goes on waiting.
+fn decided_waiting(
+    alloc: Global,
+    workload: &Workload,
+    vector: Vector,
+    txn: Txn,
+    request: &Request,
+    verdict: Verdict,
+) -> Result<Option<Entry>, NoMemory>
+    ensures { IfOk result (λ e. (p : List Noted) → vector ≡ seen.vector workload.now p → rules.is_waiting p txn ≡ true → e ≡ words.decided workload.now p txn request.now verdict) }
+{
+    match verdict {
+        Verdict::Reject(why) => refused(alloc, txn, cause_of(why), request),
+        Verdict::Grant => {
+            let applied = up_holders(workload, vector, request.writes.as_slice());
+            granted(alloc, txn, request, applied)
+        }
+        Verdict::Wait => Ok(None),
+    }
+}
+
+/// The entry that answers the request of a transaction that waits, with a copy of it, given the verdict of the controllers in force; None
+/// where it goes on waiting. No cycle is looked for: it was none when the request came to wait.
+pub fn answer_waiting(
+    alloc: Global,
+    workload: &Workload,
+    locks: &FailLocks,
+    txn: Txn,
+    request: &Request,
+    verdict: Verdict,
+) -> Result<Option<Entry>, NoMemory>
+    ensures { IfOk result (λ e. (p : List Noted) → faillocks.Stands locks.now workload.now.sites (parts.placement workload.now) p → rules.is_waiting p txn ≡ true → verdict ≡ rule.verdict workload.now p (writing txn (rules.stamp p txn) request.now.writes) → e ≡ words.answer_commit workload.now p txn request.now) }
+{
+    let vector = locks.vector();
+    match site_refusal(workload, vector, request) {
+        Some(why) => refused(alloc, txn, why, request),
+        None => decided_waiting(alloc, workload, vector, txn, request, verdict),
+>>>>>>> 5c26b3852377cae877ac4eaaf3b3c6d5919f9752
     }
 }

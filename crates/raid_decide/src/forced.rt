@@ -1,13 +1,18 @@
 //! The entries that may have to come next.
 
-ghost use Rattle.std.specs.Prelude.{◌≡◌, nat_le, not, ◌&&◌, Some, None, option_map, find, if◌then◌else◌};
+ghost use Rattle.std.specs.Prelude.{◌≡◌, ℕ, nat_le, false, not, ◌&&◌, List, Some, None, option_map, find, if◌then◌else◌};
+ghost use Rattle.std.specs.List.{list_any};
 ghost use Rattle.raid_base.specs.declared.entry.Act.TheVariants as acts;
 ghost use Rattle.raid_base.specs.declared.entry.Entry.TheVariants as entries;
+ghost use Rattle.raid_base.specs.declared.entry.Noted.{Noted};
+ghost use Rattle.raid_base.specs.declared.verdict.Kind.{Kind};
+ghost use Rattle.raid_workload.specs.declared.workload.Workload.{Workload};
 ghost use Rattle.raid_workload.specs.Parts as parts;
 ghost use Rattle.raid_rules.specs.History as rules;
 ghost use Rattle.raid_rules.specs.Sessions as sessions;
 ghost use Rattle.raid_legal.specs.Seen as seen;
-ghost use Rattle.raid_legal.specs.InForce.{InForce, is_joint};
+ghost use Rattle.raid_legal.specs.Seen.{running};
+ghost use Rattle.raid_legal.specs.InForce.{InForce, in_force, is_joint, is_tied, end_due};
 ghost use Rattle.raid_legal.specs.Forced as words;
 ghost use Rattle.raid_placed.specs.Placed.{Placed};
 
@@ -96,3 +101,23 @@ pub fn switch_on(workload: &Workload, history: &History, switches: u8, joint: bo
     let next = *workload.switches.get(switches as usize);
     come_on(next, switches + 1, history, joint)
 }
+
+/// The SwitchEnd of the last switch, of this number, where its end is due.
+#[tactic(auto, using(crate::proofs::Coming::ends_on))]
+pub fn switch_end(due: bool, switches: u8) -> Option<Entry>
+    ensures { (w : Workload) (p : List Noted) (f : InForce) → due ≡ end_due w p → switches ≡ f.switches → result ≡ words.switch_end w p f }
+{
+    if due {
+        Some(Entry::SwitchEnd { switch: switches })
+    } else {
+        None
+    }
+}
+
+/// The end of a suffix-sufficient switch is due where no running transaction is tied to the time before its SwitchOn; where none is on,
+/// no end is due.
+#[tactic(auto, using(crate::proofs::Coming::due_where_none_is_tied, crate::proofs::Coming::none_due))]
+pub fn ends_are_due_where_none_is_tied()
+    ensures joint { (w : Workload) (p : List Noted) (c : Kind × ℕ) → (in_force w p).next ≡ Some c → end_due w p ≡ not (list_any (is_tied p c.1) (running w p)) }
+    ensures alone { (w : Workload) (p : List Noted) → (in_force w p).next ≡ None → end_due w p ≡ false }
+{}
