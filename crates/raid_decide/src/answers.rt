@@ -198,8 +198,6 @@ pub fn answer_commit<B: Blocks>(
         None => decided(
             alloc, workload, vector, waits, blocks, txn, request, verdict,
         ),
-<<<<<<< HEAD
-=======
     }
 }
 
@@ -240,6 +238,5 @@ pub fn answer_waiting(
     match site_refusal(workload, vector, request) {
         Some(why) => refused(alloc, txn, why, request),
         None => decided_waiting(alloc, workload, vector, txn, request, verdict),
->>>>>>> 5c26b3852377cae877ac4eaaf3b3c6d5919f9752
     }
 }
