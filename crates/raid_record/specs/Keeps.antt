@@ -15,8 +15,8 @@ use Rattle.raid_rules.specs.Entries.{wait_of}
 use Rattle.raid_rules.specs.History.{has_begun, waiting, is_waiting}
 use Rattle.raid_legal.specs.Seen.{attempt, has_down_after, is_restart}
 use Rattle.raid_steps.specs.Sequencer.{next_number}
-use Rattle.raid_conflict.specs.declared.tables.Tables.{Tables}
-use Rattle.raid_conflict.specs.Tables as graphs
+use Rattle.raid_conflict.specs.declared.state.State.{State}
+use Rattle.raid_conflict.specs.Live as graphs
 use Rattle.raid_faillock.specs.Stands as faillocks
 use Rattle.raid_faillock.specs.Stands.{is_of_sites}
 
@@ -37,7 +37,7 @@ abbrev pub AreLeft : Workload → List Bool → List Noted → Type 0
 AreLeft w marks p = (t : Txn) → slice_index_or marks t.0 false ≡ is_left w p t
 
 -- the tables answer each question as the noted entries do; and each transaction that began is one of the workload, and each that waited began
-pub record Stands (w : Workload) (g : Tables) (f : faillocks.Parts) (rs : List (Txn × Request)) (numbers : List ℕ) (marks : List Bool) (p : List Noted) : Type 0 where
+pub record Stands (w : Workload) (g : State) (f : faillocks.Parts) (rs : List (Txn × Request)) (numbers : List ℕ) (marks : List Bool) (p : List Noted) : Type 0 where
   pub graph : graphs.Stands g p
   pub locks : faillocks.Stands f w.sites (placement w) p
   pub waits : rs ≡ waiting p
