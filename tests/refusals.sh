@@ -1,18 +1,17 @@
 #!/bin/sh
 # Refuses each allocation of a run in turn, by the kit's own means: `rt try` builds the program anew for each number, which
-# takes a quarter of a minute each. tests/allocations.sh does the same to the built program, in a second. The run has to end
-# with status 6 and nothing written, or as it does where none is refused. Run it by hand: sh tests/refusals.sh [FIRST [LAST]]
-if ! command -v rt >/dev/null; then
-    echo "refusals: skipped, since there is no rt"
+# takes a quarter of a minute each, so it is run by hand: sh tests/refusals.sh FIRST LAST. tests/allocations.sh does the same
+# to the built program, in a second. The run has to end with status 6 and nothing written, or as it does where none is refused.
+if [ $# -ne 2 ] || ! command -v rt >/dev/null; then
+    echo "refusals: skipped, since it is run by hand: sh tests/refusals.sh FIRST LAST"
     exit 0
 fi
 cd crates/raid || exit 1
 room=$(mktemp -d)
 trap 'rm -rf "$room"' EXIT
-number=${1:-1}
-last=${2:-100}
+number=$1
 refused=0
-while [ "$number" -le "$last" ]; do
+while [ "$number" -le "$2" ]; do
     rt try --fail-alloc "$number" -- run <stdin >"$room/out" 2>"$room/err"
     status=$?
     if [ "$status" -eq 6 ] && [ ! -s "$room/out" ]; then
