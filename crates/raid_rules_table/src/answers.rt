@@ -202,7 +202,7 @@ impl Table {
             Head::Source => self.source(line)?,
             Head::Order => self.order(alloc, line, false)?,
             Head::Cyclic => self.order(alloc, line, true)?,
-            Head::Carried => bail!("no line of such a view"),
+            Head::Carried | Head::Suffix | Head::Due => bail!("no line of such a view"),
             Head::End => {}
         }
         Ok(head)
