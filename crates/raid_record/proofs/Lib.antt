@@ -5,3 +5,7 @@ pub mod Lists
 pub mod Grown
 pub mod Sites
 pub mod Sent
+pub mod Placing
+pub mod Renewed
+pub mod Stepped
+pub mod Begins

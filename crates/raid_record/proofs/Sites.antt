@@ -36,7 +36,7 @@ pub made_more : {X : Type 0} (f : Site → List X) (k : ℕ) → flat_map f (sit
 made_more f k = ap (flat_map f) (sites_more k) ∙ flat_map-append f (sites_to k) (site (k + 1) ∷ []) ∙ ap (λ xs. flat_map f (sites_to k) ++ xs) (append-nil (f (site (k + 1))))
 
 -- past the end of a vector no site is up
-past_end : (v : List ℕ) (k : ℕ) → length v ≤ k → slice_index v k ≡ 0
+pub past_end : (v : List ℕ) (k : ℕ) → length v ≤ k → slice_index v k ≡ 0
 past_end [] k below = refl
 past_end (x ∷ v) zero below = absurd (omega (arith, below))
 past_end (x ∷ v) (suc k) below = past_end v k (omega (arith, below))

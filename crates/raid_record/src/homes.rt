@@ -1,9 +1,12 @@
 //! The homes of transactions, and which each home begins next.
 
-ghost use Rattle.std.specs.Prelude.{◌≡◌, ◌≤◌, ◌<◌, ◌-◌, ◌==◌, ◌&&◌, not, true, length, slice_index, IfOk, if◌then◌else◌};
+ghost use Rattle.std.specs.Prelude.{◌≡◌, ◌≤◌, ◌<◌, ◌-◌, ◌==◌, ◌&&◌, not, true, false, List, length, slice_index, IfOk, if◌then◌else◌};
+ghost use Rattle.std.specs.Option.{option_map_or};
 ghost use Rattle.raid_base.specs.declared.names.Site.{Site};
 ghost use Rattle.raid_base.specs.declared.entry.Entry.TheVariants as entries;
-ghost use Rattle.raid_base.specs.Names.{is_site, has_txn};
+ghost use Rattle.raid_base.specs.declared.entry.Noted.{Noted};
+ghost use Rattle.raid_base.specs.Names.{is_site, is_txn, has_txn};
+ghost use Rattle.raid_workload.specs.declared.workload.Workload.{Workload};
 ghost use Rattle.raid_workload.specs.Parts as parts;
 ghost use Rattle.raid_rules.specs.History as rules;
 ghost use Rattle.raid_legal.specs.Seen as seen;
@@ -123,6 +126,16 @@ impl Nexts {
         ensures { result ≡ slice_index self.now (site.0 - 1) }
     {
         self.numbers[site.0 as usize - 1]
+    }
+
+    /// Whether the transaction is what the site begins next.
+    pub fn is_next(&self, site: Site, txn: Txn) -> bool
+        requires least { 1 ≤ site.0 }
+        requires most { site.0 ≤ 8 }
+        requires counted { 1 ≤ txn.0 }
+        ensures { (w : Workload) (p : List Noted) → AreNext w self.now p → result ≡ option_map_or (is_txn txn) (seen.next_of w p site) false }
+    {
+        self.number(site) == txn.0
     }
 
     /// A transaction of the workload begins after the history: where it was what its home begins next, the one that follows is that now.

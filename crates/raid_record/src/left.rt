@@ -1,10 +1,12 @@
 //! Transactions whose programs may be tried again.
 
-ghost use Rattle.std.specs.Prelude.{◌≡◌, ◌≤◌, ◌<◌, ◌+◌, ◌^◌, ◌==◌, ◌&&◌, ◌||◌, max, not, true, false, ℕ, [], vec_len, slice_index_or, OnOk, OnErr, if◌then◌else◌};
+ghost use Rattle.std.specs.Prelude.{◌≡◌, ◌≤◌, ◌<◌, ◌+◌, ◌^◌, ◌==◌, ◌&&◌, ◌||◌, max, not, true, false, ℕ, List, [], vec_len, slice_index_or, OnOk, OnErr, if◌then◌else◌};
 ghost use Rattle.raid_base.specs.declared.names.Txn.{Txn};
+ghost use Rattle.raid_base.specs.declared.entry.Noted.{Noted};
 ghost use Rattle.raid_base.specs.Names.{is_txn, is_site};
 ghost use Rattle.raid_workload.specs.Parts as parts;
 ghost use Rattle.raid_legal.specs.Seen as seen;
+ghost use Rattle.raid_record.specs.Keeps.{AreLeft};
 
 use crate::homes;
 use raid_base::{Cause, NoMemory, Site, Txn};
@@ -90,6 +92,15 @@ impl Left {
     {
         let place = txn.0 as usize;
         place < self.marks.len() && self.marks[place]
+    }
+
+    /// Whether the transaction is a new attempt that is due: the one before it was aborted so that its program may be tried again, and
+    /// their home has stayed up since.
+    pub fn is_again(&self, workload: &Workload, txn: Txn) -> bool
+        ensures { (p : List Noted) → AreLeft workload.now self.now p → result ≡ seen.again workload.now p txn }
+    {
+        let programs = workload.programs.len() as u32;
+        homes::attempt(workload, txn) > 0 && self.has(Txn(txn.0.saturating_sub(programs)))
     }
 
     /// A transaction is aborted: it is marked where the cause lets its program be tried again. After want of memory the same are marked.
