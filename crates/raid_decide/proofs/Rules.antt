@@ -1,14 +1,12 @@
 -- What every workload keeps, as its rules say: few sites and switches, and homes that are sites.
-use Rattle.std.proofs.Common.{◌≡◌, ℕ, zero, suc, ◌+◌, ◌-◌, ◌*◌, ◌%◌, ◌<◌, ◌≤◌, ◌==◌, nat_lt, nat_le, Bool, true, false, ◌&&◌, ◌||◌, List, [], ◌∷◌, map, length, slice_get, true≢false, arith, refl, ap, sym, subst, ◌∙◌}
+use Rattle.std.proofs.Common.{◌≡◌, ℕ, zero, suc, ◌+◌, ◌-◌, ◌*◌, ◌%◌, ◌<◌, ◌≤◌, ◌==◌, nat_lt, nat_le, Bool, true, false, ◌&&◌, ◌||◌, List, [], ◌∷◌, map, length, slice_get, arith, ap, sym, ◌∙◌}
 use Rattle.std.specs.List.{list_all}
 use Rattle.std.specs.Option.{option_map_or}
 use Rattle.std.proofs.lemmas.Bool.{and_parts}
-use Rattle.std.proofs.lemmas.Grind.{common_steps}
 use Rattle.raid_base.specs.declared.names.Txn.{Txn}
 use Rattle.raid_base.specs.declared.names.Site.{Site}
-use Rattle.raid_base.specs.Names.{is_txn, has_txn}
+use Rattle.raid_base.specs.Names.{has_txn}
 use Rattle.raid_base.specs.Sites.{site}
-use Rattle.raid_program.specs.declared.program.Statement.{Statement}
 use Rattle.raid_workload.specs.declared.workload.Workload.{Workload}
 use Rattle.raid_workload.specs.declared.workload.Homed.{Homed}
 use Rattle.raid_workload.specs.Parts.{count_from, txns, home}

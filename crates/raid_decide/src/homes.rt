@@ -22,6 +22,14 @@ pub fn home(workload: &Workload, txn: Txn) -> Site
         .home
 }
 
+/// Whether the transaction is one of the workload's.
+pub fn is_known(workload: &Workload, txn: Txn) -> bool
+    ensures { result ≡ has_txn (parts.txns workload.now) txn }
+{
+    let attempts = workload.restarts as usize + 1;
+    1 <= txn.0 && txn.0 as usize <= workload.programs.len() * attempts
+}
+
 /// The home of a transaction of the workload, which is one of the eight sites that there can be.
 pub fn known_home(workload: &Workload, txn: Txn) -> Site
     requires { has_txn (parts.txns workload.now) txn ≡ true }

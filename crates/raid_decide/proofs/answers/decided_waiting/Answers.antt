@@ -1,4 +1,4 @@
-use Rattle.std.proofs.Common.{ℤ, List, Some, ap, sym, ◌∙◌}
+use Rattle.std.proofs.Common.{Some, ap, sym, ◌∙◌}
 use Rattle.raid_base.specs.declared.entry.Act.TheVariants as acts
 use Rattle.raid_base.specs.declared.entry.Entry.TheVariants.{Abort, Commit}
 use Rattle.raid_legal.specs.Seen.{up_holders}

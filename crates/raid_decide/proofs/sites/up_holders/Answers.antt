@@ -1,10 +1,10 @@
-use Rattle.std.proofs.Common.{◌≡◌, arith, ℕ, List, ap, sym, ◌∙◌, filter, ◌&&◌, ◌||◌, length, rules}
+use Rattle.std.proofs.Common.{◌≡◌, arith, ℕ, List, ap, ◌∙◌, filter, ◌&&◌, ◌||◌, length, rules}
 use Rattle.raid_base.specs.declared.names.Site.{Site}
 use Rattle.raid_base.specs.Names.{is_site, has_site}
 use Rattle.raid_base.specs.Sites.{site, all_sites}
 use Rattle.raid_workload.specs.Parts.{sites}
 use Rattle.raid_rules.specs.Sessions.{is_site_up}
-use Rattle.raid_legal.specs.Seen.{vector, holds_some}
+use Rattle.raid_legal.specs.Seen.{holds_some}
 use Rattle.raid_session.proofs.Searched.{below, passed_more, failed_more}
 use Rattle.raid_decide.proofs.Up.{length_vector, up_are_of_workload}
 use Rattle.raid_decide.proofs.sites.up_holders.Goals as goal

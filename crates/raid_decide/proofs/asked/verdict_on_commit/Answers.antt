@@ -1,0 +1,15 @@
+use Rattle.std.proofs.Common.{ap, ◌∙◌}
+use Rattle.raid_rules.specs.History.{noted}
+use Rattle.raid_rules.specs.Verdicts.{writing}
+use Rattle.raid_legal.specs.InForce.{in_force, controllers, verdict}
+use Rattle.raid_decide.proofs.Told.{commits_fit}
+use Rattle.raid_decide.proofs.asked.verdict_on_commit.Goals as goal
+
+pub returns-clause-answers : goal.returns-clause-answers
+returns-clause-answers g c = λ w force.
+    let h = c.args.history.now in
+    c.judge.ensures.answers (controllers (in_force w (noted h)) (noted h)) force.views (commits_fit w h c.args.txn c.stamp-stamp.result c.args.request.now.writes c.stamp-stamp.ensures.is force.placed c.requires.running)
+    ∙ ap (λ k. verdict w (noted h) (writing c.args.txn k c.args.request.now.writes)) c.stamp-stamp.ensures.is
+
+pub returns-clause-keeps : goal.returns-clause-keeps
+returns-clause-keeps g c = record { views = c.judge.ensures.keeps; kinds = c.judge.ensures.kinds; structures = c.judge.ensures.structures; since = c.judge.ensures.since; finished = c.judge.ensures.finished }
