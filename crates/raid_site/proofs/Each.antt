@@ -1,19 +1,18 @@
 -- What is done for each running program, one after another.
 use Rattle.std.proofs.Common.{◌≡◌, ℕ, ℤ, zero, suc, ◌+◌, ◌<◌, ◌==◌, nat_lt, Bool, true, false, not, if◌then◌else◌, List, [], ◌∷◌, ◌++◌, map, filter, length, take, drop, Option, Some, None, slice_get, ◌≤◌, arith, ap, sym, subst, ◌∙◌, refl, append-nil, append_assoc}
-use Rattle.std.specs.Prelude.{find, fold, flat_map, option_map, ◌&&◌, ◌||◌}
+use Rattle.std.specs.Prelude.{find, fold, flat_map, option_map, ◌&&◌}
 use Rattle.std.specs.Option.{option_map_or}
-use Rattle.std.specs.List.{All, AllPairs, list_any}
-use Rattle.std.proofs.lemmas.Grind.{common_steps}
-use Rattle.std.proofs.lemmas.List.Elements.{All-cons, All-head, All-tail}
+use Rattle.std.specs.List.{All}
+use Rattle.std.proofs.lemmas.List.Elements.{All-head, All-tail}
 use Rattle.raid_base.specs.declared.names.Txn.{Txn}
 use Rattle.raid_base.specs.declared.names.Item.{Item}
 use Rattle.raid_base.specs.declared.names.Site.{Site}
-use Rattle.raid_base.specs.Names.{is_txn, is_site, has_txn}
+use Rattle.raid_base.specs.Names.{is_txn, is_site}
 use Rattle.raid_workload.specs.declared.workload.Workload.{Workload}
 use Rattle.raid_rules.specs.Sessions.{with_session}
 use Rattle.raid_legal.specs.Seen.{holds_some}
 use Rattle.raid_message.specs.declared.letter.Message.TheVariants as letters
-use Rattle.raid_steps.specs.State.{Out, Turn, tell, send, Phase, asking, preparing, sent, Running, SiteState}
+use Rattle.raid_steps.specs.State.{Out, Turn, Phase, asking, preparing, sent, Running, SiteState}
 use Rattle.raid_steps.specs.Programs.{put_running, with_running, prepare_out, with_vote, without_vote, lose, join, ask_commit}
 use Rattle.raid_steps.specs.Site.{down_row}
 use Rattle.raid_steps.specs.Programs as steps
@@ -27,8 +26,8 @@ use Rattle.raid_vote.specs.declared.changes.Ballot.{Ballot}
 use Rattle.raid_vote.specs.Ballots.{is_of, is_open, awaited, awaiting, changed, without, close}
 use Rattle.raid_vote.specs.Ballots as votes
 use Rattle.raid_site.specs.declared.parts.Parts.{Parts}
-use Rattle.raid_site.specs.Whole.{Same, phase_of, running_of, state_of, turn, is_over, is_due, commit_out, committing, is_joined, joining}
-use Rattle.raid_site.proofs.Phases.{Less, same_all, same_closed, own_closed, same_changed, own_changed, all_changed, rest_same, over_found}
+use Rattle.raid_site.specs.Whole.{Same, phase_of, running_of, state_of, turn, is_due, committing, is_joined, joining}
+use Rattle.raid_site.proofs.Phases.{Less, same_closed, own_closed, same_changed, own_changed, all_changed, rest_same, over_found}
 use Rattle.raid_site.proofs.Rows.{ballot_turn, open_none, open_some}
 
 abbrev pub txns_in : List Running → List Txn

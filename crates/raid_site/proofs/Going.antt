@@ -1,27 +1,23 @@
 -- A program goes on: what the driver does, and what follows for the site.
-use Rattle.std.proofs.Common.{◌≡◌, ℕ, ℤ, zero, suc, ◌+◌, ◌<◌, ◌==◌, nat_lt, Bool, true, false, not, if◌then◌else◌, List, [], ◌∷◌, ◌++◌, map, filter, length, Option, Some, None, arith, ap, sym, subst, ◌∙◌, refl, append-nil}
-use Rattle.std.specs.Prelude.{find, fold, flat_map, option_map, ◌&&◌, ◌||◌}
+use Rattle.std.proofs.Common.{◌≡◌, ℤ, Bool, true, false, not, if◌then◌else◌, List, [], ◌∷◌, ◌++◌, map, filter, Option, ap, sym, ◌∙◌, refl, append-nil}
 use Rattle.std.specs.Option.{option_map_or}
-use Rattle.std.specs.List.{All, AllPairs, list_any}
-use Rattle.std.proofs.lemmas.Grind.{common_steps}
 use Rattle.raid_base.specs.declared.names.Txn.{Txn}
 use Rattle.raid_base.specs.declared.names.Item.{Item}
 use Rattle.raid_base.specs.declared.names.Site.{Site}
-use Rattle.raid_base.specs.Names.{is_txn, has_txn}
+use Rattle.raid_base.specs.Names.{has_txn}
 use Rattle.raid_program.specs.declared.program.Want.{Want}
 use Rattle.raid_program.specs.declared.program.Want.TheVariants as wants
-use Rattle.raid_program.specs.Run.{Outcome, outcome_of, put, given}
+use Rattle.raid_program.specs.Run.{Outcome, outcome_of, given}
 use Rattle.raid_workload.specs.declared.workload.Workload.{Workload}
 use Rattle.raid_workload.specs.Parts.{program}
 use Rattle.raid_legal.specs.Seen.{holds_some}
 use Rattle.raid_message.specs.declared.letter.Message.TheVariants as letters
-use Rattle.raid_steps.specs.State.{Out, Turn, Phase, asking, preparing, sent, Running, SiteState}
+use Rattle.raid_steps.specs.State.{Out, Turn, Phase, preparing, sent, SiteState}
 use Rattle.raid_steps.specs.Programs.{put_running, with_running, turn_to, prepare, prepare_out, held_by, voters}
 use Rattle.raid_steps.specs.Programs as steps
 use Rattle.raid_steps.specs.Copies.{stage}
 use Rattle.raid_access.specs.Stock.{staging}
-use Rattle.raid_driver.specs.declared.task.Doing.{Doing}
-use Rattle.raid_driver.specs.declared.task.Doing.TheVariants.{Asking, Done, Over}
+use Rattle.raid_driver.specs.declared.task.Doing.TheVariants.{Done, Over}
 use Rattle.raid_driver.specs.declared.task.Task.{Task}
 use Rattle.raid_driver.specs.Drive.{Drive, Ascends, txns_of, done_of, task_of, put_task, is_done, writes_in, writes_of, come_to, come_to_outs, fresh}
 use Rattle.raid_driver.specs.Drive as drive
@@ -29,7 +25,7 @@ use Rattle.raid_driver.proofs.Places.{put_ascends}
 use Rattle.raid_vote.specs.declared.changes.Ballot.{Ballot}
 use Rattle.raid_vote.specs.Ballots.{is_of, started, close}
 use Rattle.raid_site.specs.declared.parts.Parts.{Parts}
-use Rattle.raid_site.specs.Whole.{Same, phase_of, running_of, state_of, turn, is_over, prepared, prepared_outs, settled}
+use Rattle.raid_site.specs.Whole.{Same, phase_of, running_of, state_of, turn, is_over, settled}
 use Rattle.raid_site.proofs.Phases.{same_all, same_closed, own_closed, same_more, own_more, put_same, put_found, over_found}
 
 -- the parts with a program in its place

@@ -4,3 +4,8 @@ pub mod Rows
 pub mod Each
 pub mod Holders
 pub mod Senders
+pub mod Seats
+pub mod Fitting
+pub mod Asking
+pub mod Sessions
+pub mod Runs

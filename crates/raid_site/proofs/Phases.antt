@@ -1,19 +1,18 @@
 -- What programs are about, when ballots change.
-use Rattle.std.proofs.Common.{◌≡◌, ℕ, zero, suc, ◌+◌, ◌<◌, ◌==◌, nat_lt, Bool, true, false, not, if◌then◌else◌, List, [], ◌∷◌, ◌++◌, map, filter, length, Option, Some, None, arith, ap, sym, subst, ◌∙◌, refl}
-use Rattle.std.specs.Prelude.{find, fold, flat_map, option_map, ◌&&◌, ◌||◌}
+use Rattle.std.proofs.Common.{◌≡◌, ◌<◌, ◌==◌, nat_lt, Bool, true, false, not, if◌then◌else◌, List, [], ◌∷◌, ◌++◌, map, filter, Option, Some, None, arith, ap, sym, subst, ◌∙◌, refl}
+use Rattle.std.specs.Prelude.{find, option_map, ◌||◌}
 use Rattle.std.specs.Option.{option_map_or}
-use Rattle.std.specs.List.{All, AllPairs, list_any}
-use Rattle.std.proofs.lemmas.Grind.{common_steps}
+use Rattle.std.specs.List.{All, list_any}
 use Rattle.std.proofs.lemmas.List.Elements.{All-cons, All-head, All-tail}
 use Rattle.raid_base.specs.declared.names.Txn.{Txn}
 use Rattle.raid_base.specs.declared.names.Site.{Site}
 use Rattle.raid_base.specs.Names.{is_txn, has_txn}
-use Rattle.raid_steps.specs.State.{Out, Turn, Phase, asking, preparing, sent, Running, SiteState}
+use Rattle.raid_steps.specs.State.{preparing, sent, Running}
 use Rattle.raid_steps.specs.Programs.{put_running}
 use Rattle.raid_driver.specs.declared.task.Doing.{Doing}
 use Rattle.raid_driver.specs.declared.task.Doing.TheVariants.{Asking, Done, Over}
 use Rattle.raid_driver.specs.declared.task.Task.{Task}
-use Rattle.raid_driver.specs.Drive.{Ascends, txns_of, done_of, task_of, put_task, is_done, reads_in, writes_in, reads_of, writes_of}
+use Rattle.raid_driver.specs.Drive.{Ascends, txns_of, done_of, task_of, put_task, is_done}
 use Rattle.raid_driver.proofs.Places.{first_pairs, rest_pairs, found_txn}
 use Rattle.raid_vote.specs.declared.changes.Ballot.{Ballot}
 use Rattle.raid_vote.specs.Ballots.{is_of, awaiting, changed}

@@ -1,20 +1,18 @@
 -- What each call on the parts is among the rows of a site.
-use Rattle.std.proofs.Common.{◌≡◌, ℕ, ℤ, zero, suc, ◌+◌, ◌<◌, ◌==◌, nat_lt, Bool, true, false, not, if◌then◌else◌, List, [], ◌∷◌, ◌++◌, map, filter, length, Option, Some, None, arith, ap, sym, subst, ◌∙◌, refl, append-nil}
-use Rattle.std.specs.Prelude.{find, fold, flat_map, option_map, ◌&&◌, ◌||◌}
+use Rattle.std.proofs.Common.{◌≡◌, ℕ, ℤ, ◌==◌, Bool, true, false, not, if◌then◌else◌, List, [], ◌∷◌, ◌++◌, map, filter, length, Option, Some, None, arith, ap, sym, subst, ◌∙◌, refl, append-nil}
+use Rattle.std.specs.Prelude.{find, option_map, ◌&&◌, ◌||◌}
 use Rattle.std.specs.Option.{option_map_or}
-use Rattle.std.specs.List.{All, AllPairs, list_any}
-use Rattle.std.proofs.lemmas.Grind.{common_steps}
+use Rattle.std.specs.List.{list_any}
 use Rattle.std.proofs.lemmas.Bool.{eqb-true}
 use Rattle.raid_base.specs.declared.names.Txn.{Txn}
 use Rattle.raid_base.specs.declared.names.Item.{Item}
 use Rattle.raid_base.specs.declared.names.Site.{Site}
 use Rattle.raid_base.specs.Names.{is_txn, has_txn}
-use Rattle.raid_program.specs.Run.{Outcome, outcome_of, put, given}
+use Rattle.raid_program.specs.Run.{outcome_of, put, given}
 use Rattle.raid_workload.specs.declared.workload.Workload.{Workload}
 use Rattle.raid_workload.specs.Parts.{program}
-use Rattle.raid_legal.specs.Seen.{holds_some}
 use Rattle.raid_message.specs.declared.letter.Message.TheVariants as letters
-use Rattle.raid_steps.specs.State.{Out, Turn, with_state, tell, send, Phase, asking, preparing, sent, Running, SiteState}
+use Rattle.raid_steps.specs.State.{Out, Turn, with_state, tell, asking, preparing, sent, Running, SiteState}
 use Rattle.raid_steps.specs.Programs.{following, next_attempt, with_running, give_to, prepare_out, with_vote, without_vote, change}
 use Rattle.raid_steps.specs.Programs as steps
 use Rattle.raid_steps.specs.Copies as copying
@@ -31,8 +29,8 @@ use Rattle.raid_vote.specs.declared.changes.Ballot.{Ballot}
 use Rattle.raid_vote.specs.Ballots.{is_of, awaiting, changed, without}
 use Rattle.raid_vote.specs.Ballots as votes
 use Rattle.raid_site.specs.declared.parts.Parts.{Parts}
-use Rattle.raid_site.specs.Whole.{Same, phase_of, running_of, state_of, turn, is_over, settled, is_due, committing, is_joined, joining}
-use Rattle.raid_site.proofs.Phases.{Less, same_all, same_closed, own_closed, same_changed, own_changed, running_same, running_found, runs_same, left_same, put_back, over_found, over_none}
+use Rattle.raid_site.specs.Whole.{Same, phase_of, running_of, state_of, turn, is_over, settled}
+use Rattle.raid_site.proofs.Phases.{same_all, same_closed, same_changed, own_changed, running_same, running_found, left_same, put_back, over_found}
 use Rattle.raid_site.proofs.Going.{putting, put_turn, come_row, begin_row}
 
 pub same_txn : (t u : Txn) → is_txn t u ≡ true → u ≡ t

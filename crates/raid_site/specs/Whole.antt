@@ -1,6 +1,6 @@
 -- A site, put together from its parts.
-use Rattle.std.specs.Prelude.{ℕ, ℤ, ◌≤◌, ◌≡◌, ◌==◌, Bool, true, false, ◌&&◌, List, [], ◌∷◌, ◌++◌, map, find, length, Option, if◌then◌else◌}
-use Rattle.std.specs.List.{list_any}
+use Rattle.std.specs.Prelude.{ℕ, ◌≤◌, ◌≡◌, ◌==◌, Bool, true, false, not, ◌&&◌, List, [], ◌∷◌, ◌++◌, map, find, length, if◌then◌else◌}
+use Rattle.std.specs.List.{list_all}
 use Rattle.std.specs.Option.{option_map_or}
 use Rattle.raid_base.specs.declared.names.Txn.{Txn}
 use Rattle.raid_base.specs.declared.names.Site.{Site}
@@ -14,7 +14,7 @@ use Rattle.raid_access.specs.Stock.{staging}
 use Rattle.raid_driver.specs.declared.task.Doing.{Doing}
 use Rattle.raid_driver.specs.declared.task.Doing.TheVariants.{Asking, Done, Over}
 use Rattle.raid_driver.specs.declared.task.Task.{Task}
-use Rattle.raid_driver.specs.Drive.{Drive, done_of, writes_of, reads_of}
+use Rattle.raid_driver.specs.Drive.{Drive, txns_of, done_of, writes_of, reads_of}
 use Rattle.raid_vote.specs.declared.changes.Ballot.{Ballot}
 use Rattle.raid_vote.specs.Ballots.{is_of, started, close, is_open, awaited}
 use Rattle.raid_vote.specs.Ballots as votes
@@ -58,6 +58,28 @@ pub record Live (w : Workload) (driver : Drive) (s : Site) (vector : List ℕ) :
 -- the parts are in use, and fit the workload
 abbrev pub IsLive : Workload → Parts → Type 0
 IsLive w p = Live w p.driver p.site p.vector
+
+-- the transactions that have ballots
+abbrev pub open_txns : List Ballot → List Txn
+open_txns bs = map (λ (b : Ballot). b.txn) bs
+
+-- no transaction stands twice in the list
+abbrev pub is_once : List Txn → Bool
+is_once [] = true
+is_once (t ∷ ts) = not (has_txn ts t) && is_once ts
+
+-- at most as many programs run as may together, and for so many ballots there is room; each ballot is of a transaction that runs, and no two
+-- are of one; and the copies are those of the site
+pub record Whole (together : ℕ) (running voting : List Txn) (space : ℕ) (stored own : Site) : Type 0 where
+  pub few : length running ≤ together
+  pub room : space ≡ together
+  pub run : list_all (has_txn running) voting ≡ true
+  pub once : is_once voting ≡ true
+  pub home : stored ≡ own
+
+-- the parts fit one another
+abbrev pub IsWhole : Workload → Parts → Type 0
+IsWhole w p = Whole w.together (txns_of p.driver.running) (open_txns p.ballots.ballots) p.ballots.room p.copies.site p.site
 
 -- the transaction's program is done
 abbrev pub is_over : Parts → Txn → Bool

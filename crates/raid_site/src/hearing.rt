@@ -5,12 +5,12 @@ ghost use Rattle.raid_steps.specs.Fits.{is_of_sequencer, is_of_site};
 ghost use Rattle.raid_steps.specs.Programs.{ask_commits};
 ghost use Rattle.raid_steps.specs.Site as steps;
 ghost use Rattle.raid_driver.specs.Drive.{may_ask};
-ghost use Rattle.raid_site.specs.Whole.{turn, state_of, IsLive};
+ghost use Rattle.raid_site.specs.Whole.{turn, state_of, IsLive, IsWhole};
 
 use crate::parts::Parts;
-use crate::peer_rows::{copied_row, prepare_row, refuse, value_row, vote_row};
-use crate::sequencer_rows::{
-    apply_row, copy_row, done_row, down_row, drop_row, read_row, serving_row, up_row, welcome_row,
+use crate::table::{
+    apply_row, copied_row, copy_row, done_row, down_row, drop_row, prepare_row, read_row,
+    serving_row, up_row, value_row, vote_row, welcome_row,
 };
 use crate::{fits, programs};
 use raid_base::{NoMemory, Site};
@@ -27,11 +27,13 @@ fn sequencer_row(
     outs: &mut Outs,
 ) -> Result<(), NoMemory>
     requires live { IsLive workload.now parts.old }
+    requires whole { IsWhole workload.now parts.old }
     requires asks { IsTrue (may_ask parts.old.driver.running) }
     requires known { IsTrue (is_of_sequencer workload.now message.now) }
     requires here { IsTrue (steps.fits_here workload.now (state_of parts.old) message.now) }
     ensures ok { OnOk result (turn parts.new outs.new ≡ steps.sequencer_row workload.now (turn parts.old outs.old) message.now) }
     ensures live { OnOk result (IsLive workload.now parts.new) }
+    ensures whole { OnOk result (IsWhole workload.now parts.new) }
 {
     match message {
         Message::Welcome { vector, next } => {
@@ -85,11 +87,13 @@ fn peer_row(
     outs: &mut Outs,
 ) -> Result<(), NoMemory>
     requires live { IsLive workload.now parts.old }
+    requires whole { IsWhole workload.now parts.old }
     requires asks { IsTrue (may_ask parts.old.driver.running) }
     requires least { 1 ≤ site.0 }
     requires most { site.0 ≤ 8 }
     ensures ok { OnOk result (turn parts.new outs.new ≡ steps.peer_row workload.now (turn parts.old outs.old) site session message.now) }
     ensures live { OnOk result (IsLive workload.now parts.new) }
+    ensures whole { OnOk result (IsWhole workload.now parts.new) }
 {
     match message {
         Message::Value { txn, ask, value } => {
@@ -120,11 +124,13 @@ fn do_sequencer(
     outs: &mut Outs,
 ) -> Result<(), NoMemory>
     requires live { IsLive workload.now parts.old }
+    requires whole { IsWhole workload.now parts.old }
     requires asks { IsTrue (may_ask parts.old.driver.running) }
     requires known { IsTrue (is_of_sequencer workload.now message.now) }
     requires here { IsTrue (steps.fits_here workload.now (state_of parts.old) message.now) }
     ensures ok { OnOk result (turn parts.new outs.new ≡ ask_commits (steps.sequencer_row workload.now (turn parts.old outs.old) message.now)) }
     ensures live { OnOk result (IsLive workload.now parts.new) }
+    ensures whole { OnOk result (IsWhole workload.now parts.new) }
 {
     sequencer_row(parts, alloc, workload, message, outs)?;
     programs::ask_commits(parts, alloc, workload, outs)
@@ -141,11 +147,13 @@ fn do_peer(
     outs: &mut Outs,
 ) -> Result<(), NoMemory>
     requires live { IsLive workload.now parts.old }
+    requires whole { IsWhole workload.now parts.old }
     requires asks { IsTrue (may_ask parts.old.driver.running) }
     requires least { 1 ≤ site.0 }
     requires most { site.0 ≤ 8 }
     ensures ok { OnOk result (turn parts.new outs.new ≡ ask_commits (steps.peer_row workload.now (turn parts.old outs.old) site session message.now)) }
     ensures live { OnOk result (IsLive workload.now parts.new) }
+    ensures whole { OnOk result (IsWhole workload.now parts.new) }
 {
     peer_row(parts, alloc, workload, site, session, message, outs)?;
     programs::ask_commits(parts, alloc, workload, outs)
@@ -160,10 +168,12 @@ pub fn hear_sequencer(
     outs: &mut Outs,
 ) -> Result<(), NoMemory>
     requires live { IsLive workload.now parts.old }
+    requires whole { IsWhole workload.now parts.old }
     requires asks { IsTrue (may_ask parts.old.driver.running) }
     requires none { outs.old ≡ [] }
     ensures ok { OnOk result (turn parts.new outs.new ≡ steps.hear_sequencer workload.now (state_of parts.old) letter.now) }
     ensures live { OnOk result (IsLive workload.now parts.new) }
+    ensures whole { OnOk result (IsWhole workload.now parts.new) }
 {
     if !fits::is_of_sequencer(workload, &letter.message) {
         return Ok(());
@@ -184,12 +194,14 @@ pub fn hear_peer(
     outs: &mut Outs,
 ) -> Result<(), NoMemory>
     requires live { IsLive workload.now parts.old }
+    requires whole { IsWhole workload.now parts.old }
     requires asks { IsTrue (may_ask parts.old.driver.running) }
     requires none { outs.old ≡ [] }
     requires least { 1 ≤ site.0 }
     requires most { site.0 ≤ 8 }
     ensures ok { OnOk result (turn parts.new outs.new ≡ steps.hear_peer workload.now (state_of parts.old) site letter.now) }
     ensures live { OnOk result (IsLive workload.now parts.new) }
+    ensures whole { OnOk result (IsWhole workload.now parts.new) }
 {
     if !fits::is_of_site(workload, &letter.message) {
         return Ok(());

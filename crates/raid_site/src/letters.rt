@@ -5,12 +5,11 @@ ghost use Rattle.raid_base.specs.Sites.{site};
 ghost use Rattle.raid_steps.specs.State.{opened};
 ghost use Rattle.raid_steps.specs.Site as steps;
 ghost use Rattle.raid_driver.specs.Drive.{may_ask};
-ghost use Rattle.raid_site.specs.Whole.{turn, state_of, IsLive};
+ghost use Rattle.raid_site.specs.Whole.{turn, state_of, IsLive, IsWhole};
 
 use crate::hearing::{hear_peer, hear_sequencer};
-use crate::monitor_rows::{return_row, stop_row};
 use crate::parts::Parts;
-use crate::peer_rows::refuse;
+use crate::table::{refuse, return_row, stop_row};
 use raid_base::{NoMemory, Site};
 use raid_message::{Letter, Message, Outs};
 use raid_workload::Workload;
@@ -24,9 +23,11 @@ fn stop(
     outs: &mut Outs,
 ) -> Result<(), NoMemory>
     requires live { IsLive workload.now parts.old }
+    requires whole { IsWhole workload.now parts.old }
     requires none { outs.old ≡ [] }
     ensures ok { OnOk result (turn parts.new outs.new ≡ steps.stop workload.now (state_of parts.old) message.now) }
     ensures live { OnOk result (IsLive workload.now parts.new) }
+    ensures whole { OnOk result (IsWhole workload.now parts.new) }
 {
     match message {
         Message::Stop => stop_row(parts, workload, outs),
@@ -43,10 +44,12 @@ fn hear_down(
     outs: &mut Outs,
 ) -> Result<(), NoMemory>
     requires live { IsLive workload.now parts.old }
+    requires whole { IsWhole workload.now parts.old }
     requires none { outs.old ≡ [] }
     requires session { parts.old.session < 4294967295 }
     ensures ok { OnOk result (turn parts.new outs.new ≡ steps.hear_down (state_of parts.old) from letter.now) }
     ensures live { OnOk result (IsLive workload.now parts.new) }
+    ensures whole { OnOk result (IsWhole workload.now parts.new) }
 {
     if from != 0 {
         return Ok(());
@@ -67,12 +70,14 @@ fn hear_site(
     outs: &mut Outs,
 ) -> Result<(), NoMemory>
     requires live { IsLive workload.now parts.old }
+    requires whole { IsWhole workload.now parts.old }
     requires asks { IsTrue (may_ask parts.old.driver.running) }
     requires none { outs.old ≡ [] }
     requires least { 2 ≤ from }
     requires most { from ≤ 9 }
     ensures ok { OnOk result (turn parts.new outs.new ≡ (if letter.now.to == parts.old.session then steps.hear_peer workload.now (state_of parts.old) (site (from - 1)) letter.now else steps.refuse (state_of parts.old) from letter.now letter.now.message)) }
     ensures live { OnOk result (IsLive workload.now parts.new) }
+    ensures whole { OnOk result (IsWhole workload.now parts.new) }
 {
     if letter.to == parts.session {
         let site = Site(from as u8 - 1);
@@ -90,10 +95,12 @@ fn hear_first(
     outs: &mut Outs,
 ) -> Result<(), NoMemory>
     requires live { IsLive workload.now parts.old }
+    requires whole { IsWhole workload.now parts.old }
     requires asks { IsTrue (may_ask parts.old.driver.running) }
     requires none { outs.old ≡ [] }
     ensures ok { OnOk result (turn parts.new outs.new ≡ (if letter.now.to == parts.old.session then steps.hear_sequencer workload.now (state_of parts.old) letter.now else opened (state_of parts.old))) }
     ensures live { OnOk result (IsLive workload.now parts.new) }
+    ensures whole { OnOk result (IsWhole workload.now parts.new) }
 {
     if letter.to == parts.session {
         return hear_sequencer(parts, alloc, workload, letter, outs);
@@ -112,11 +119,13 @@ fn hear_up(
     outs: &mut Outs,
 ) -> Result<(), NoMemory>
     requires live { IsLive workload.now parts.old }
+    requires whole { IsWhole workload.now parts.old }
     requires asks { IsTrue (may_ask parts.old.driver.running) }
     requires none { outs.old ≡ [] }
     requires sender { from ≤ 9 }
     ensures ok { OnOk result (turn parts.new outs.new ≡ steps.hear_up workload.now (state_of parts.old) from letter.now) }
     ensures live { OnOk result (IsLive workload.now parts.new) }
+    ensures whole { OnOk result (IsWhole workload.now parts.new) }
 {
     if from == 0 {
         return stop(parts, workload, &letter.message, outs);
@@ -137,12 +146,14 @@ pub fn hear(
     outs: &mut Outs,
 ) -> Result<(), NoMemory>
     requires live { IsLive workload.now parts.old }
+    requires whole { IsWhole workload.now parts.old }
     requires asks { IsTrue (may_ask parts.old.driver.running) }
     requires none { outs.old ≡ [] }
     requires sender { from ≤ 9 }
     requires session { parts.old.session < 4294967295 }
     ensures ok { OnOk result (turn parts.new outs.new ≡ steps.hear_site workload.now (state_of parts.old) from letter.now) }
     ensures live { OnOk result (IsLive workload.now parts.new) }
+    ensures whole { OnOk result (IsWhole workload.now parts.new) }
 {
     if parts.up {
         return hear_up(parts, alloc, workload, from, letter, outs);

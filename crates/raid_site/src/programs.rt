@@ -1,7 +1,8 @@
 //! The programs that run at a site: they begin and go on, they ask for votes and to commit.
 
-ghost use Rattle.std.specs.Prelude.{List, ◌≡◌, ◌≤◌, ◌<◌, ◌++◌, ◌∷◌, ◌&&◌, [], map, filter, fold, true, false, IsTrue, IfOk, OnOk, if◌then◌else◌};
+ghost use Rattle.std.specs.Prelude.{List, ◌≡◌, ◌≤◌, ◌<◌, ◌+◌, ◌++◌, ◌∷◌, ◌&&◌, [], length, map, filter, fold, slice_get, Some, true, false, IsTrue, IfOk, OnOk, if◌then◌else◌};
 ghost use Rattle.raid_base.specs.Names.{has_txn, has_site};
+ghost use Rattle.raid_workload.specs.declared.workload.Workload.{Workload};
 ghost use Rattle.raid_legal.specs.Seen as seen;
 ghost use Rattle.raid_steps.specs.Programs as steps;
 ghost use Rattle.raid_access.specs.Stock.{staging};
@@ -10,7 +11,7 @@ ghost use Rattle.raid_driver.specs.Drive as drive;
 ghost use Rattle.raid_vote.specs.Ballots.{started, close};
 ghost use Rattle.raid_site.specs.Whole as whole;
 ghost use Rattle.raid_steps.specs.State.{Out};
-ghost use Rattle.raid_site.specs.Whole.{turn, state_of, Same, IsLive, prepared, prepared_outs, settled};
+ghost use Rattle.raid_site.specs.Whole.{turn, state_of, Same, IsLive, IsWhole, prepared, prepared_outs, settled};
 
 use crate::holding::{held_by, holds_some, voters};
 use crate::parts::Parts;
@@ -30,6 +31,23 @@ pub fn ascends(parts: &Parts)
     ensures { parts.now.driver.finished ≡ false → Ascends (txns_of parts.now.driver.running) }
 {
     let _running = parts.driver.running();
+}
+
+/// How many programs run.
+fn count(parts: &Parts) -> usize
+    requires { parts.now.driver.finished ≡ false }
+    ensures { result ≡ length parts.now.driver.running }
+{
+    parts.driver.running().len()
+}
+
+/// The transaction of the program at this place among those that run, counted from 0.
+fn txn_at(parts: &Parts, place: usize) -> Txn
+    requires live { parts.now.driver.finished ≡ false }
+    requires within { place < length parts.now.driver.running }
+    ensures { slice_get (txns_of parts.now.driver.running) place ≡ Some result }
+{
+    *parts.driver.running().get(place)
 }
 
 /// Whether the list has the transaction.
@@ -83,15 +101,12 @@ fn stage_own(
 }
 
 /// Opens the transaction's ballot, in place of the one that it had.
-fn open_ballot(ballots: &mut Ballots, txn: Txn, sites: Sites) -> Result<(), NoMemory>
-    ensures { OnOk result (ballots.new ≡ started txn sites (close txn ballots.old)) }
+fn open_ballot(ballots: &mut Ballots, txn: Txn, sites: Sites)
+    requires { length (close txn ballots.old).ballots < ballots.old.room }
+    ensures { ballots.new ≡ started txn sites (close txn ballots.old) }
 {
     ballots.close(txn);
-    if ballots.is_full() {
-        return Err(NoMemory);
-    }
     ballots.start(txn, sites);
-    Ok(())
 }
 
 /// Asks a site to stage its part of a transaction's writes and to vote.
@@ -171,14 +186,17 @@ fn prepare(
     outs: &mut Outs,
 ) -> Result<(), NoMemory>
     requires live { IsLive workload.now parts.old }
+    requires whole { IsWhole workload.now parts.old }
+    requires runs { IsTrue (has_txn (txns_of parts.old.driver.running) txn) }
     ensures parts { OnOk result (parts.new ≡ prepared workload.now parts.old txn) }
     ensures outs { OnOk result (outs.new ≡ outs.old ++ prepared_outs workload.now parts.old txn) }
+    ensures driver { parts.new.driver ≡ parts.old.driver }
 {
-    let writes = parts.driver.writes(txn).copy(alloc)?;
+    let writes = parts.driver.writes(txn);
     let sites = voters(workload, parts.vector, parts.site, writes.as_slice());
-    stage_own(&mut parts.copies, alloc, workload, parts.site, txn, &writes)?;
-    open_ballot(&mut parts.ballots, txn, sites)?;
-    ask_votes(alloc, workload, parts.vector, txn, &writes, sites, outs)
+    stage_own(&mut parts.copies, alloc, workload, parts.site, txn, writes)?;
+    open_ballot(&mut parts.ballots, txn, sites);
+    ask_votes(alloc, workload, parts.vector, txn, writes, sites, outs)
 }
 
 /// Prepares the transaction's commit where that is wanted.
@@ -191,8 +209,12 @@ fn settle(
     outs: &mut Outs,
 ) -> Result<(), NoMemory>
     requires live { IsLive workload.now parts.old }
+    requires whole { IsWhole workload.now parts.old }
+    requires runs { wanted ≡ true → has_txn (txns_of parts.old.driver.running) txn ≡ true }
     ensures ok { OnOk result (turn parts.new outs.new ≡ settled workload.now parts.old outs.old txn wanted) }
     ensures live { OnOk result (IsLive workload.now parts.new) }
+    ensures whole { OnOk result (IsWhole workload.now parts.new) }
+    ensures driver { parts.new.driver ≡ parts.old.driver }
 {
     if wanted {
         return prepare(parts, alloc, workload, txn, outs);
@@ -211,9 +233,11 @@ pub fn give(
     outs: &mut Outs,
 ) -> Result<(), NoMemory>
     requires live { IsLive workload.now parts.old }
+    requires whole { IsWhole workload.now parts.old }
     requires asks { IsTrue (may_ask parts.old.driver.running) }
     ensures ok { OnOk result (turn parts.new outs.new ≡ steps.give workload.now (turn parts.old outs.old) txn ask value) }
     ensures live { OnOk result (IsLive workload.now parts.new) }
+    ensures whole { OnOk result (IsWhole workload.now parts.new) }
 {
     ascends(parts);
     let was = is_over(parts, txn);
@@ -231,8 +255,12 @@ fn begin_next(
     outs: &mut Outs,
 ) -> Result<(), NoMemory>
     requires live { IsLive workload.now parts.old }
+    requires whole { IsWhole workload.now parts.old }
+    requires room { length parts.old.driver.running < workload.now.together }
     ensures ok { OnOk result (turn parts.new outs.new ≡ steps.begin_next workload.now (turn parts.old outs.old)) }
     ensures live { OnOk result (IsLive workload.now parts.new) }
+    ensures whole { OnOk result (IsWhole workload.now parts.new) }
+    ensures more { OnOk result (length parts.new.driver.running ≤ length parts.old.driver.running + 1) }
 {
     ascends(parts);
     let begun = parts.driver.begin_next(alloc, workload, outs)?;
@@ -253,11 +281,12 @@ pub fn start(
     outs: &mut Outs,
 ) -> Result<(), NoMemory>
     requires live { IsLive workload.now parts.old }
+    requires whole { IsWhole workload.now parts.old }
     ensures ok { OnOk result (turn parts.new outs.new ≡ steps.start workload.now (turn parts.old outs.old)) }
     ensures live { OnOk result (IsLive workload.now parts.new) }
+    ensures whole { OnOk result (IsWhole workload.now parts.new) }
 {
-    let running = parts.driver.running().len();
-    let free = (workload.together as usize).saturating_sub(running);
+    let free = (workload.together as usize).saturating_sub(count(parts));
     for _ in 0..free {
         begin_next(parts, alloc, workload, outs)?;
     }
@@ -294,6 +323,7 @@ fn ask_commit(parts: &mut Parts, alloc: Global, txn: Txn, outs: &mut Outs) -> Re
     ensures site { parts.new.site ≡ parts.old.site }
     ensures vector { parts.new.vector ≡ parts.old.vector }
     ensures others { OnOk result (Same txn parts.old.ballots.ballots parts.new.ballots.ballots) }
+    ensures whole { (w : Workload) → IsWhole w parts.old → OnOk result (IsWhole w parts.new) }
 {
     if !is_due(parts, txn) {
         return Ok(());
@@ -311,13 +341,15 @@ pub fn ask_commits(
     outs: &mut Outs,
 ) -> Result<(), NoMemory>
     requires live { IsLive workload.now parts.old }
+    requires whole { IsWhole workload.now parts.old }
     ensures ok { OnOk result (turn parts.new outs.new ≡ steps.ask_commits (turn parts.old outs.old)) }
     ensures live { OnOk result (IsLive workload.now parts.new) }
+    ensures whole { OnOk result (IsWhole workload.now parts.new) }
 {
     ascends(parts);
-    let txns = parts.driver.running().copy(alloc)?;
-    for txn in txns.as_slice() {
-        ask_commit(parts, alloc, *txn, outs)?;
+    for place in 0..count(parts) {
+        let txn = txn_at(parts, place);
+        ask_commit(parts, alloc, txn, outs)?;
     }
     Ok(())
 }
@@ -327,6 +359,7 @@ fn end(parts: &mut Parts, txn: Txn)
     ensures ok { (outs : List Out) → turn parts.new outs ≡ steps.ended (turn parts.old outs) txn }
     ensures ascends { parts.new.driver.finished ≡ false → Ascends (txns_of parts.new.driver.running) }
     ensures parts { parts.new ≡ record (parts.old) { driver = drive.ended parts.old.driver txn; ballots = close txn parts.old.ballots } }
+    ensures whole { (w : Workload) → IsWhole w parts.old → IsWhole w parts.new }
 {
     parts.driver.ended(txn);
     parts.ballots.close(txn);
@@ -342,8 +375,10 @@ pub fn end_row(
     outs: &mut Outs,
 ) -> Result<(), NoMemory>
     requires live { IsLive workload.now parts.old }
+    requires whole { IsWhole workload.now parts.old }
     ensures ok { OnOk result (turn parts.new outs.new ≡ steps.start workload.now (steps.ended (turn parts.old outs.old) txn)) }
     ensures live { OnOk result (IsLive workload.now parts.new) }
+    ensures whole { OnOk result (IsWhole workload.now parts.new) }
 {
     end(parts, txn);
     start(parts, alloc, workload, outs)
@@ -358,9 +393,12 @@ fn begin_again(
     outs: &mut Outs,
 ) -> Result<(), NoMemory>
     requires live { IsLive workload.now parts.old }
+    requires whole { IsWhole workload.now parts.old }
+    requires runs { IsTrue (has_txn (txns_of parts.old.driver.running) txn) }
     requires left { seen.attempt workload.now txn < workload.now.restarts }
     ensures ok { OnOk result (turn parts.new outs.new ≡ steps.begin workload.now (steps.ended (turn parts.old outs.old) txn) (steps.next_attempt workload.now txn)) }
     ensures live { OnOk result (IsLive workload.now parts.new) }
+    ensures whole { OnOk result (IsWhole workload.now parts.new) }
 {
     ascends(parts);
     parts.driver.again(alloc, workload, txn, outs)?;
@@ -380,9 +418,12 @@ pub fn end_or_again(
     outs: &mut Outs,
 ) -> Result<(), NoMemory>
     requires live { IsLive workload.now parts.old }
+    requires whole { IsWhole workload.now parts.old }
+    requires runs { again ≡ true → has_txn (txns_of parts.old.driver.running) txn ≡ true }
     requires left { again ≡ true → seen.attempt workload.now txn < workload.now.restarts }
     ensures ok { OnOk result (turn parts.new outs.new ≡ (if again then steps.begin workload.now (steps.ended (turn parts.old outs.old) txn) (steps.next_attempt workload.now txn) else steps.ended (turn parts.old outs.old) txn)) }
     ensures live { OnOk result (IsLive workload.now parts.new) }
+    ensures whole { OnOk result (IsWhole workload.now parts.new) }
 {
     if again {
         return begin_again(parts, alloc, workload, txn, outs);
@@ -420,13 +461,14 @@ fn join(
     ensures site { parts.new.site ≡ parts.old.site }
     ensures vector { parts.new.vector ≡ parts.old.vector }
     ensures others { OnOk result (Same txn parts.old.ballots.ballots parts.new.ballots.ballots) }
+    ensures whole { (w : Workload) → IsWhole w parts.old → OnOk result (IsWhole w parts.new) }
 {
     if !is_joined(parts, workload, txn, site) {
         return Ok(());
     }
-    let writes = parts.driver.writes(txn).copy(alloc)?;
     parts.ballots.up(txn, site);
-    ask_vote(alloc, workload, parts.vector, txn, &writes, site, outs)
+    let writes = parts.driver.writes(txn);
+    ask_vote(alloc, workload, parts.vector, txn, writes, site, outs)
 }
 
 /// The site joins each preparation that concerns it, the least transaction's first.
@@ -438,15 +480,17 @@ pub fn join_all(
     outs: &mut Outs,
 ) -> Result<(), NoMemory>
     requires live { IsLive workload.now parts.old }
+    requires whole { IsWhole workload.now parts.old }
     requires least { 1 ≤ site.0 }
     requires most { site.0 ≤ 8 }
     ensures ok { OnOk result (turn parts.new outs.new ≡ fold (λ now r. steps.join workload.now site now r r.phase) (turn parts.old outs.old) (state_of parts.old).running) }
     ensures live { OnOk result (IsLive workload.now parts.new) }
+    ensures whole { OnOk result (IsWhole workload.now parts.new) }
 {
     ascends(parts);
-    let txns = parts.driver.running().copy(alloc)?;
-    for txn in txns.as_slice() {
-        join(parts, alloc, workload, *txn, site, outs)?;
+    for place in 0..count(parts) {
+        let txn = txn_at(parts, place);
+        join(parts, alloc, workload, txn, site, outs)?;
     }
     Ok(())
 }

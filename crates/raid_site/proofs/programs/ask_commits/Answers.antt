@@ -1,18 +1,15 @@
-use Rattle.std.proofs.Common.{rules, Some, slice_get, get_or, ap, sym, ◌∙◌}
-use Rattle.std.proofs.lemmas.Option.{slice_get-get_or}
-use Rattle.raid_base.specs.declared.names.Txn.{Txn}
+use Rattle.std.proofs.Common.{rules, slice_get, ap, sym, ◌∙◌}
+use Rattle.raid_driver.specs.Drive.{Drive, txns_of}
 use Rattle.raid_site.proofs.Each.{commit_step}
 use Rattle.raid_site.proofs.programs.ask_commits.Goals as goal
 
-pub loop-txn-preserved : goal.loop-txn-preserved
-loop-txn-preserved c =
-    let k = c.loop-txn.txn-index in
-    let txns = c.as_slice-txn-items.result.now in
-    let none : Txn = record { 0 = 0 } in
-    let listed = c.as_slice-txn-items.ensures ∙ c.in_ok-txns.ensures ∙ c.running.ensures.is c.requires.live.live in
+pub loop-place-preserved : goal.loop-place-preserved
+loop-place-preserved c =
+    let k = c.loop-place.place in
+    let place = ap (λ (d : Drive). slice_get (txns_of d.running) k) (sym c.loop-place.invariant.so_far.driver) ∙ c.txn_at-txn.ensures in
     record {
-      so_far = commit_step c.args.parts.now c.loop-txn.parts c.ask_commit.new.parts c.args.outs.now c.loop-txn.outs c.ask_commit.new.outs k (get_or txns k none) c.loop-txn.invariant.so_far
-          (ap (λ ts. slice_get ts k) (sym listed) ∙ slice_get-get_or txns k none c.loop-txn-test.true) (c.ascends.ensures c.requires.live.live)
-          c.ask_commit.ensures.driver c.in_ok-ask_commit.ensures.others c.in_ok-ask_commit.ensures.ok;
+      so_far = commit_step c.args.parts.now c.loop-place.parts c.ask_commit.new.parts c.args.outs.now c.loop-place.outs c.ask_commit.new.outs k c.txn_at-txn.result c.loop-place.invariant.so_far
+          place (c.ascends.ensures c.requires.live.live) c.ask_commit.ensures.driver c.in_ok-ask_commit.ensures.others c.in_ok-ask_commit.ensures.ok;
       live = search rules;
+      whole = c.in_ok-ask_commit.ensures.whole c.args.workload.now c.loop-place.invariant.whole;
     }

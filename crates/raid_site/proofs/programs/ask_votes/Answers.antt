@@ -1,4 +1,4 @@
-use Rattle.std.proofs.Common.{◌++◌, ◌+◌, ◌-◌, ◌≤◌, map, filter, drop, ap, sym, ◌∙◌, arith}
+use Rattle.std.proofs.Common.{◌++◌, ◌+◌, ◌-◌, map, filter, drop, ap, ◌∙◌, arith}
 use Rattle.raid_base.specs.Names.{has_site}
 use Rattle.raid_base.specs.Sites.{all_sites}
 use Rattle.raid_steps.specs.Programs as steps

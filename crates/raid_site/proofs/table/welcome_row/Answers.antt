@@ -1,4 +1,4 @@
-use Rattle.std.proofs.Common.{[], ap, ◌∙◌}
+use Rattle.std.proofs.Common.{ap, ◌∙◌}
 use Rattle.raid_driver.proofs.Places.{on_ok}
 use Rattle.raid_driver.specs.Drive.{Drive, cleared}
 use Rattle.raid_steps.specs.Programs as steps
@@ -6,7 +6,7 @@ use Rattle.raid_vote.specs.Ballots.{Held}
 use Rattle.raid_site.specs.declared.parts.Parts.{Parts}
 use Rattle.raid_site.specs.Whole.{turn}
 use Rattle.raid_site.proofs.Rows.{welcomed}
-use Rattle.raid_site.proofs.sequencer_rows.welcome_row.Goals as goal
+use Rattle.raid_site.proofs.table.welcome_row.Goals as goal
 
 pub returns-clause-ok : goal.returns-clause-ok
 returns-clause-ok c =

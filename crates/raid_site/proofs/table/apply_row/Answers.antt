@@ -4,7 +4,7 @@ use Rattle.raid_access.specs.Stock.{Stock, applying}
 use Rattle.raid_site.specs.declared.parts.Parts.{Parts}
 use Rattle.raid_site.specs.Whole.{turn}
 use Rattle.raid_site.proofs.Rows.{applied}
-use Rattle.raid_site.proofs.sequencer_rows.apply_row.Goals as goal
+use Rattle.raid_site.proofs.table.apply_row.Goals as goal
 
 pub returns-clause-ok : goal.returns-clause-ok
 returns-clause-ok c =

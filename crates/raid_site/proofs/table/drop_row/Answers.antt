@@ -5,7 +5,7 @@ use Rattle.raid_steps.specs.Programs as steps
 use Rattle.raid_site.specs.declared.parts.Parts.{Parts}
 use Rattle.raid_site.specs.Whole.{turn}
 use Rattle.raid_site.proofs.Phases.{runs_same}
-use Rattle.raid_site.proofs.sequencer_rows.drop_row.Goals as goal
+use Rattle.raid_site.proofs.table.drop_row.Goals as goal
 
 pub returns-clause-ok : goal.returns-clause-ok
 returns-clause-ok c =
