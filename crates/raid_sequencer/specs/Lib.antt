@@ -1,0 +1,3 @@
+pub mod Extent
+pub mod Kept
+pub mod Runs
