@@ -1,0 +1,100 @@
+ghost use Rattle.std.specs.Prelude.{◌≡◌, ◌==◌, ◌<◌, true, false, is_none, drop, List, [], ◌∷◌, ◌++◌, length, replicate, slice_get, slice_set, slice_index_or, IfOk, IfSome, OnOk, OnErr};
+ghost use Rattle.std.specs.List.{list_all};
+ghost use Rattle.raid_message.specs.declared.letter.Letter.{Letter};
+
+use crate::queue::Queue;
+use raid_base::NoMemory;
+use raid_message::Letter;
+use std::alloc::Global;
+use std::marker::Model;
+
+/// The links to one server, by sender. Contracts see the list of their letters.
+#[derive(Drop, Debug)]
+pub struct Row {
+    queues: Vec<Queue>,
+}
+
+impl Model for Row {
+    ghost use Rattle.std.specs.Prelude.{List};
+    ghost use Rattle.raid_message.specs.declared.letter.Letter.{Letter};
+
+    ghost Value = { List (List Letter) };
+
+    ghost view = { λ r. r.queues.items };
+}
+
+/// So many empty queues.
+fn queues(alloc: Global, servers: usize) -> Result<Vec<Queue>, NoMemory>
+    ensures { IfOk result (λ qs. qs.items ≡ replicate servers []) }
+{
+    let mut queues = Vec::new(alloc);
+    for _ in 0..servers {
+        queues.push(Queue::new(alloc))?;
+    }
+    Ok(queues)
+}
+
+impl Row {
+    /// Empty links from so many servers.
+    pub fn new(alloc: Global, servers: usize) -> Result<Row, NoMemory>
+        ensures { IfOk result (λ r. r ≡ replicate servers []) }
+    {
+        let queues = queues(alloc, servers)?;
+        Ok(Row { queues })
+    }
+
+    /// From how many servers there are links.
+    pub fn len(&self) -> usize
+        ensures { result ≡ length self.now }
+    {
+        self.queues.len()
+    }
+
+    /// Whether no letter of the sender waits; there is none of a sender without a link.
+    pub fn is_empty(&self, from: usize) -> bool
+        ensures { result ≡ (length (slice_index_or self.now from []) == 0) }
+    {
+        from >= self.queues.len() || self.queues[from].is_empty()
+    }
+
+    /// Puts a letter at the end of the sender's link. After want of memory the links are as they were.
+    pub fn push(&mut self, from: usize, letter: Letter) -> Result<(), NoMemory>
+        requires { from < length self.old }
+        ensures ok { OnOk result (self.new ≡ slice_set self.old from (slice_index_or self.old from [] ++ letter ∷ [])) }
+        ensures err { OnErr result (self.new ≡ self.old) }
+    {
+        self.queues[from].push(letter)
+    }
+
+    /// Takes the front letter of the sender's link; None exactly where there is none.
+    pub fn pop(&mut self, from: usize) -> Option<Letter>
+        ensures front { result ≡ slice_get (slice_index_or self.old from []) 0 }
+        ensures rest { self.new ≡ slice_set self.old from (drop 1 (slice_index_or self.old from [])) }
+    {
+        if from >= self.queues.len() {
+            return None;
+        }
+        self.queues[from].pop()
+    }
+
+    /// The least sender with a letter on its link; None exactly where there is none.
+    pub fn first(&self) -> Option<usize>
+        ensures some { IfSome result (λ k. (k < length self.now) × ((length (slice_index_or self.now k []) == 0) ≡ false)) }
+        ensures none { is_none result ≡ list_all (λ queue. length queue == 0) self.now }
+    {
+        first_full(&self.queues)
+    }
+}
+
+/// The place of the first queue with a letter.
+fn first_full(queues: &[Queue]) -> Option<usize>
+    ensures some { IfSome result (λ k. (k < length queues.now) × ((length (slice_index_or queues.now k []) == 0) ≡ false)) }
+    ensures none { is_none result ≡ list_all (λ queue. length queue == 0) queues.now }
+{
+    for (k, queue) in queues.iter().enumerate() {
+        if !queue.is_empty() {
+            return Some(k);
+        }
+    }
+    None
+}
