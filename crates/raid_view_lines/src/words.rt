@@ -23,6 +23,8 @@ pub enum Head {
     Order,
     Cyclic,
     Carried,
+    Suffix,
+    Due,
     End,
 }
 
@@ -68,6 +70,8 @@ fn word_of(text: &str) -> Result<Word> {
         "order" => Word::Head(Head::Order),
         "cyclic" => Word::Head(Head::Cyclic),
         "carried" => Word::Head(Head::Carried),
+        "suffix" => Word::Head(Head::Suffix),
+        "due" => Word::Head(Head::Due),
         "end" => Word::Head(Head::End),
         "begin" => Word::Sort(Sort::Begin),
         "read" => Word::Sort(Sort::Read),
