@@ -1,0 +1,82 @@
+"""Letters of the reference model as lines, for the program raid_site_table.
+
+Each line is one word or number after another, with single spaces. Transactions, sites, switches and sessions are
+counted from 1, items from 0; a number that the workload doesn't know is written as it is. Pairs are ITEM=VALUE joined
+by commas, or `-`; a vector is a session for each site joined by commas, 0 for a site that is down, or `-` for none.
+
+  > FROM SESSION TO MESSAGE..    a letter that the server hears: its sender's server number, its `from` and its `to`
+  < SERVER TO MESSAGE..          a letter that it sends then: the addressee's server number, and its `to`
+
+The messages are
+
+  welcome VECTOR NEXT      readdo TXN ASK ITEM HOME SESSION    serving TXN ASK SITE      apply TXN NUMBER
+  done TXN                 drop TXN yes|no                     downnote SITE             upnote SITE SESSION
+  copydo ITEM TARGET SESSION                                   hello                     begin TXN
+  readask TXN ASK ITEM     commitask TXN READS WRITES VECTOR   endask TXN own|overflow READS
+  ack TXN                  copydone ITEM VERSION               value TXN ASK VALUE       prepare TXN WRITES
+  vote TXN yes             vote TXN no NAMED OWN               copyvalue ITEM VALUE VERSION
+  stop                     return                              halted                    down SITE SESSION
+  ends COUNT
+"""
+import os
+import sys
+
+HERE = os.path.dirname(os.path.abspath(__file__))
+ORACLE = os.environ.get("RAID_ORACLE", os.path.join(HERE, "..", "..", "shared", "oracle"))
+sys.path.insert(0, ORACLE)
+
+import raid_world as world  # noqa: E402
+
+# The word of each message that says all its fields in their order.
+PLAIN = {
+    world.ReadDo: "readdo", world.Serving: "serving", world.Apply: "apply", world.Done: "done", world.DownNote: "downnote",
+    world.UpNote: "upnote", world.CopyDo: "copydo", world.Hello: "hello", world.BeginAsk: "begin",
+    world.ReadAskLetter: "readask", world.AckLetter: "ack", world.CopyDone: "copydone", world.ValueLetter: "value",
+    world.CopyValue: "copyvalue", world.Stop: "stop", world.Return: "return", world.Halted: "halted",
+    world.DownLetter: "down", world.Ends: "ends",
+}
+
+
+def pairs_word(pairs):
+    return ",".join(f"{x}={value}" for x, value in pairs) or "-"
+
+
+def vector_word(vector):
+    return ",".join(map(str, vector)) or "-"
+
+
+def message_words(m):
+    if type(m) in PLAIN:
+        return " ".join([PLAIN[type(m)], *(str(getattr(m, field)) for field in m.__slots__)])
+    if isinstance(m, world.Welcome):
+        return f"welcome {vector_word(m.vector)} {m.next}"
+    if isinstance(m, world.Drop):
+        return f"drop {m.txn} {'yes' if m.again else 'no'}"
+    if isinstance(m, world.CommitAskLetter):
+        r = m.request
+        return f"commitask {m.txn} {pairs_word(r.reads)} {pairs_word(r.writes)} {vector_word(r.under)}"
+    if isinstance(m, world.EndAsk):
+        return f"endask {m.txn} {m.cause} {pairs_word(m.reads)}"
+    if isinstance(m, world.Prepare):
+        return f"prepare {m.txn} {pairs_word(m.writes)}"
+    if isinstance(m, world.Vote):
+        return f"vote {m.txn} " + ("yes" if m.no is None else f"no {m.no[0]} {m.no[1]}")
+    raise ValueError(m)
+
+
+def heard_line(sender, letter):
+    return f"> {sender} {letter.from_} {letter.to} {message_words(letter.message)}"
+
+
+def sent_line(out):
+    receiver, to, message = out
+    return f"< {receiver} {to} {message_words(message)}"
+
+
+def step_lines(hear, sender, letter):
+    """Lets a server of the model hear a letter: the lines of the letter, and of what it sends. One that doesn't fit is dropped."""
+    try:
+        outs = hear(sender, letter)
+    except world.Misfit:
+        outs = []
+    return [heard_line(sender, letter), *map(sent_line, outs)]

@@ -1,0 +1,126 @@
+"""Compares the program's reports with those of the reference model, byte for byte, on workloads of all forms.
+
+Half of the workloads are drawn by the model's own generator; the others here, each with one to four sites, of
+every kind and structure, switches of every method that the structure has, stops and returns, and restarts. Each report
+of the program is judged by the model, too. What the program refuses as not built yet is counted; where all are refused so, the
+comparison is skipped.
+
+    runs.py PROGRAM COUNT [SEED]
+
+RAID_ORACLE names the folder of the model.
+"""
+import collections
+import itertools
+import os
+import random
+import subprocess
+import sys
+
+sys.path.insert(0, os.environ["RAID_ORACLE"])
+
+import fuzz  # noqa: E402
+import oracle  # noqa: E402
+from raid_report import print_report  # noqa: E402
+from raid_text import parse, print_workload  # noqa: E402
+from raid_types import Event, Homed, KINDS, STRUCTURES, Switch  # noqa: E402
+from raid_world import World, run_fixed  # noqa: E402
+
+# Whether the program takes the letters of all workloads in one order: always those of the least server, from the least sender.
+# Otherwise only workloads of one site without stops have one report, and the others' are judged alone.
+ORDER_IS_FIXED = True
+# What the program says of a form that isn't built yet.
+NOT_BUILT = b"refused line 0 fault 8 word\n"
+FORMS = list(itertools.product(KINDS, STRUCTURES, (1, 2, 3, 4)))
+
+
+def switches(rng, kind, structure, count):
+    """Switches by every method that the structure has, one after another."""
+    methods = ["convert", "suffix"] + (["generic"] if structure == "generic" else [])
+    chosen, trigger = [], rng.randint(1, 3)
+    for _ in range(count):
+        kind = rng.choice([other for other in KINDS if other != kind])
+        chosen.append(Switch(kind, rng.choice(methods), trigger))
+        trigger += rng.randint(0, 3)
+    return tuple(chosen)
+
+
+def events(rng, sites, count):
+    """Stops and returns of sites, in turn."""
+    chosen, stopped, trigger = [], set(), 1
+    for _ in range(count):
+        site = rng.choice(sorted(stopped)) if stopped and rng.random() < 0.5 else rng.randint(1, sites)
+        chosen.append(Event(site not in stopped, site, trigger))
+        stopped ^= {site}
+        trigger += rng.choice((0, 0, 1, 1, 2))
+    return tuple(chosen)
+
+
+def drawn(rng, k):
+    """A workload of the k-th form, with more transactions and at more sites than the model's generator draws."""
+    kind, structure, sites = FORMS[k % len(FORMS)]
+    while True:
+        base = fuzz.random_workload(rng, most_sites=sites)
+        if base.sites == sites:
+            break
+    fields = {name: getattr(base, name) for name in base.__dataclass_fields__}
+    programs = (fuzz.random_program(rng, len(base.items)) for _ in range(rng.randint(2, 20)))
+    fields.update(kind=kind, structure=structure, together=rng.randint(1, 6),
+                  programs=tuple(Homed(rng.randint(1, sites), program) for program in programs),
+                  switches=switches(rng, kind, structure, rng.randint(0, 4)),
+                  events=events(rng, sites, rng.choice((0, 0, 2, 4, 6))))
+    return type(base)(**fields)
+
+
+def run(command, text):
+    done = subprocess.run(command, input=text, capture_output=True, check=False)
+    return done.returncode, done.stdout
+
+
+def expected(w):
+    world = World(w)
+    run_fixed(world)
+    return print_report(w, world.report())
+
+
+def counted(w):
+    """What the workload has, for the count."""
+    yield f"{w.kind} {w.structure}"
+    yield "one site" if w.sites == 1 else "several sites"
+    for name in {switch.method for switch in w.switches}:
+        yield f"{name} switches"
+    if w.events:
+        yield "stops"
+    if w.restarts:
+        yield "restarts"
+
+
+def main():
+    program, count = sys.argv[1], int(sys.argv[2])
+    seed = int(sys.argv[3]) if len(sys.argv) > 3 else 1
+    refused, failed, tally = 0, 0, collections.Counter()
+    for k in range(count):
+        rng = random.Random(f"runs {seed} {k}")
+        w = drawn(rng, k // 2) if k % 2 else fuzz.random_workload(rng)
+        text = print_workload(w)
+        w = parse(text)
+        status, report = run([program, "run"], text)
+        if (status, report) == (3, NOT_BUILT):
+            refused += 1
+            continue
+        tally.update(counted(w))
+        wanted = expected(w)
+        judged = oracle.judged("check", text + report) if status == 0 else None
+        alike = report == wanted or not (ORDER_IS_FIXED or w.sites == 1 and not w.events)
+        if not alike or judged != (0, "sound\n"):
+            failed += 1
+            print(f"workload {k}: status {status}, judged {judged}\n{text.decode()}--- program\n{report.decode()}--- model\n{wanted.decode()}")
+    if refused == count:
+        print(f"runs: skipped, since the program refuses all {count} workloads as not built yet")
+        return 0
+    print(f"runs: {count} workloads, {refused} refused as not built yet, {count - refused - failed} reports agree with the model and are "
+          f"sound, {failed} don't; of those that ran: " + ", ".join(f"{n} {name}" for name, n in sorted(tally.items())))
+    return 1 if failed else 0
+
+
+if __name__ == "__main__":
+    sys.exit(main())
