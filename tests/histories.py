@@ -11,7 +11,9 @@ what they may. The line printed has the counts.
 """
 import collections
 import dataclasses
+import os
 import random
+import sys
 
 from proving import *
 

@@ -2,15 +2,9 @@
 # Judges random histories and runs of the reference model by the definitions: see histories.py.
 # RAID_ORACLE names the folder of the model, RAID_HISTORIES how many there are to be (20), RAID_SEED which (1).
 cd "$(dirname "$0")/.." || exit 1
-oracle=${RAID_ORACLE:-../shared/oracle}
-if ! command -v python3 > /dev/null || [ ! -e "$oracle/fuzz.py" ]; then
-    echo "histories: skipped, since python3 or the reference model ($oracle) is missing"
-    exit 0
-fi
-RAID_ORACLE=$(cd "$oracle" && pwd)
-export RAID_ORACLE PYTHONDONTWRITEBYTECODE=1
-scratch=$(mktemp -d) || exit 1
-trap 'rm -rf "$scratch"' EXIT
+. tests/model.inc
+need_model histories fuzz.py
+make_scratch
 
 # a copy of the crates that the lemmas stand on, and a crate for the lemmas
 mkdir -p "$scratch/crates/trial/src" "$scratch/crates/trial/specs" "$scratch/crates/trial/proofs"

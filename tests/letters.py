@@ -18,14 +18,8 @@ The messages are
   stop                     return                              halted                    down SITE SESSION
   ends COUNT
 """
-import os
-import sys
-
-HERE = os.path.dirname(os.path.abspath(__file__))
-ORACLE = os.environ.get("RAID_ORACLE", os.path.join(HERE, "..", "..", "shared", "oracle"))
-sys.path.insert(0, ORACLE)
-
-import raid_world as world  # noqa: E402
+import model  # noqa: F401
+import raid_world as world
 
 # The word of each message that says all its fields in their order.
 PLAIN = {

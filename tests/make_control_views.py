@@ -22,10 +22,9 @@ from 1. Lines of entries are those of make_views.py.
                                        asked all that follows
   end                                  ends the view
 """
-import argparse
 import itertools
-import random
 
+from drawing import write_cases
 from make_views import empty_history, entry_words, free_entry, yes
 import raid_rules
 from raid_rules import CommitAsk, Control, ReadAsk, View, WHOLE
@@ -53,18 +52,25 @@ def is_again(p, entry):
     return isinstance(entry, Read) and any(x == entry.item for _, x, _ in p.acts_of.get(entry.txn, ()))
 
 
-def draw(p, rng, waiting, kind, view):
-    """Adds an entry that the kind grants over the view, where a few draws find one."""
-    for _ in range(6):
+def granted_entry(p, rng, waiting, weights, draws, judge):
+    """An entry that `judge` grants what it asks for, where so many draws find one."""
+    for _ in range(draws):
         if not waiting and not p.running:
-            return
-        entry = free_entry(p, rng, waiting, WEIGHTS)
+            return None
+        entry = free_entry(p, rng, waiting, weights)
         if is_again(p, entry) and rng.random() < 0.8:
             continue
         ask = asked(entry)
-        if ask is None or verdict(p, kind, view, ask) == GRANT:
-            p.push(entry)
-            return
+        if ask is None or judge(ask) == GRANT:
+            return entry
+    return None
+
+
+def draw(p, rng, waiting, kind, view):
+    """Adds an entry that the kind grants over the view, where a few draws find one."""
+    entry = granted_entry(p, rng, waiting, WEIGHTS, 6, lambda ask: verdict(p, kind, view, ask))
+    if entry:
+        p.push(entry)
 
 
 def kept(p, view, txns):
@@ -102,6 +108,14 @@ def asks(p, kind, view):
     return found
 
 
+def ask_line(p, ask, said):
+    """The line of a question and its verdict."""
+    stamp = p.begin[ask.txn]
+    if isinstance(ask, ReadAsk):
+        return f"ask-read {ask.txn} {stamp} {ask.item} {said}"
+    return f"ask-commit {ask.txn} {stamp} {said}" + "".join(f" {x}" for x, _ in ask.writes)
+
+
 def ask_lines(p, rng, kind, view, count):
     """Some of the questions: half of them such as are refused or have to wait, where there are such."""
     by_verdict = asks(p, kind, view)
@@ -113,12 +127,7 @@ def ask_lines(p, rng, kind, view, count):
             continue
         ask = rng.choice(by_verdict[said])
         by_verdict[said].remove(ask)
-        stamp = p.begin[ask.txn]
-        if isinstance(ask, ReadAsk):
-            lines.append(f"ask-read {ask.txn} {stamp} {ask.item} {said}")
-        else:
-            listed = "".join(f" {x}" for x, _ in ask.writes)
-            lines.append(f"ask-commit {ask.txn} {stamp} {said}{listed}")
+        lines.append(ask_line(p, ask, said))
     return lines
 
 
@@ -180,19 +189,11 @@ def view_lines(k, rng, kind):
     return lines + ["end"]
 
 
-def main():
-    parser = argparse.ArgumentParser(description=__doc__.splitlines()[0])
-    parser.add_argument("--views", type=int, default=3000)
-    parser.add_argument("--seed", type=int, default=1)
-    args = parser.parse_args()
-    rng = random.Random(args.seed)
-    made = 0
-    while made < args.views:
-        lines = view_lines(made + 1, rng, KINDS[made % 4])
-        if lines and sum(line.startswith("ask") for line in lines) > 1:
-            made += 1
-            print("\n".join(lines))
+def drawn_lines(k, rng):
+    """The kinds take turns; a view with fewer than two questions on verdicts won't do."""
+    lines = view_lines(k, rng, KINDS[(k - 1) % len(KINDS)])
+    return lines if lines and sum(line.startswith("ask") for line in lines) > 1 else None
 
 
 if __name__ == "__main__":
-    main()
+    write_cases(__doc__, "views", 3000, drawn_lines)

@@ -13,9 +13,7 @@ wrong sender, to another session, of an unknown transaction, item or site; and s
   > .., < ..     a letter, and those that the site sends then: see letters.py
   copies C..     ends the sequence: VALUE@VERSION of each copy of the site, by item
 """
-import argparse
-import random
-
+from drawing import write_cases
 from letters import step_lines, world
 import fuzz
 import raid_text
@@ -168,18 +166,19 @@ def small_workload(rng):
             return w
 
 
-def main():
-    parser = argparse.ArgumentParser(description=__doc__.splitlines()[0])
-    parser.add_argument("--sequences", type=int, default=600)
-    parser.add_argument("--seed", type=int, default=1)
-    args = parser.parse_args()
-    rng = random.Random(args.seed)
-    for k in range(args.sequences):
-        if k % SEQUENCES_OF_A_WORKLOAD == 0:
-            w = small_workload(rng)
-            print(raid_text.print_workload(w).decode(), end="")
-        print("\n".join(sequence_lines(w, rng)))
+class Sequences:
+    """Draws sequences, now and then after a new workload, to whose sites they go from then on."""
+
+    def __init__(self):
+        self.w = None
+
+    def lines(self, k, rng):
+        said = []
+        if k % SEQUENCES_OF_A_WORKLOAD == 1:
+            self.w = small_workload(rng)
+            said = raid_text.print_workload(self.w).decode().splitlines()
+        return said + sequence_lines(self.w, rng)
 
 
 if __name__ == "__main__":
-    main()
+    write_cases(__doc__, "sequences", 600, Sequences().lines)

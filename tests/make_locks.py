@@ -19,9 +19,7 @@ A line is a list: words with single spaces. Digits are transactions, sites and s
   bx23      the sites whose copies of x are locked
   rx12      a transaction of home s1 reads x at s2; 0 for nowhere
 """
-import argparse
-import random
-
+from drawing import write_cases
 import make_views
 from raid_rules import Prefix, items_of
 from raid_types import Ack, Begin, Clear, Commit, Down, Homed, ItemLine, Request, Up, Workload
@@ -89,15 +87,5 @@ def list_line(rng):
     return " ".join(words)
 
 
-def main():
-    parser = argparse.ArgumentParser(description=__doc__.splitlines()[0])
-    parser.add_argument("--lists", type=int, default=3000)
-    parser.add_argument("--seed", type=int, default=1)
-    args = parser.parse_args()
-    rng = random.Random(args.seed)
-    for _ in range(args.lists):
-        print(list_line(rng))
-
-
 if __name__ == "__main__":
-    main()
+    write_cases(__doc__, "lists", 3000, lambda _, rng: [list_line(rng)])

@@ -27,20 +27,13 @@ from 1.
   cyclic                                      the committed transactions have a cycle
   end                                         ends the view
 """
-import argparse
-import os
-import random
-import sys
-
-HERE = os.path.dirname(os.path.abspath(__file__))
-ORACLE = os.environ.get("RAID_ORACLE", os.path.join(HERE, "..", "..", "shared", "oracle"))
-sys.path.insert(0, ORACLE)
-
-import fuzz  # noqa: E402
-import raid_rules  # noqa: E402
-from raid_rules import CommitAsk, Control, Prefix, ReadAsk, View, WHOLE  # noqa: E402
-from raid_types import (Abort, Ack, Begin, Cause, Clear, Commit, Down, Homed, ItemLine, KINDS, Read,  # noqa: E402
-                        Request, Up, Workload)
+import model  # noqa: F401
+from drawing import write_cases
+import fuzz
+import raid_rules
+from raid_rules import CommitAsk, Control, Prefix, ReadAsk, View, WHOLE
+from raid_types import (Abort, Ack, Begin, Cause, Clear, Commit, Down, Homed, ItemLine, KINDS, Read, Request, Up,
+                        Workload)
 
 
 def legal_history(rng):
@@ -202,28 +195,20 @@ def view_lines(k, p, view, rng):
     return lines
 
 
-def main():
-    parser = argparse.ArgumentParser(description=__doc__.splitlines()[0])
-    parser.add_argument("--views", type=int, default=320)
-    parser.add_argument("--seed", type=int, default=1)
-    args = parser.parse_args()
-    rng = random.Random(args.seed)
-    out = []
-    for k in range(1, args.views + 1):
-        if k % 3 == 0:
-            p = legal_history(rng)
-            view = rng.choice([WHOLE, *(c.view for c in p.controls())])
-        else:
-            p = free_history(rng)
-            view = WHOLE
-            if rng.random() < 0.3:
-                cut = rng.randint(1, len(p.entries))
-                kept = {n for n, e in enumerate(p.entries, 1) if n <= cut and isinstance(e, (Begin, Read))
-                        and e.txn in p.running}
-                view = View(frozenset(kept if rng.random() < 0.5 else ()), cut)
-        out += view_lines(k, p, view, rng)
-    print("\n".join(out))
+def drawn_lines(k, rng):
+    """Every third view is of a legal history, the others of free ones."""
+    if k % 3 == 0:
+        p = legal_history(rng)
+        return view_lines(k, p, rng.choice([WHOLE, *(c.view for c in p.controls())]), rng)
+    p = free_history(rng)
+    view = WHOLE
+    if rng.random() < 0.3:
+        cut = rng.randint(1, len(p.entries))
+        kept = {n for n, e in enumerate(p.entries, 1) if n <= cut and isinstance(e, (Begin, Read))
+                and e.txn in p.running}
+        view = View(frozenset(kept if rng.random() < 0.5 else ()), cut)
+    return view_lines(k, p, view, rng)
 
 
 if __name__ == "__main__":
-    main()
+    write_cases(__doc__, "views", 320, drawn_lines)

@@ -8,14 +8,12 @@ more with one thing changed: a byte changed, dropped or put in, a line dropped, 
 word replaced, or the text cut. A report is to be printed again as it was, with its summary; any other text is to
 be refused at the line that the model names.
 """
-import os
 import random
 import struct
 import subprocess
 import sys
 
-sys.path.insert(0, os.environ["RAID_ORACLE"])
-
+import model  # noqa: F401
 import fuzz
 import raid_laws
 import raid_text

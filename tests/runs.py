@@ -6,30 +6,22 @@ of the program is judged by the model, too. What the program refuses as not buil
 comparison is skipped.
 
     runs.py PROGRAM COUNT [SEED]
-
-RAID_ORACLE names the folder of the model.
 """
 import collections
 import itertools
-import os
 import random
-import subprocess
 import sys
 
-sys.path.insert(0, os.environ["RAID_ORACLE"])
-
-import fuzz  # noqa: E402
-import oracle  # noqa: E402
-from raid_report import print_report  # noqa: E402
-from raid_text import parse, print_workload  # noqa: E402
-from raid_types import Event, Homed, KINDS, STRUCTURES, Switch  # noqa: E402
-from raid_world import World, run_fixed  # noqa: E402
+import model  # noqa: F401
+import fuzz
+import oracle
+from program import NOT_BUILT, expected, run
+from raid_text import parse, print_workload
+from raid_types import Event, Homed, KINDS, STRUCTURES, Switch
 
 # Whether the program takes the letters of all workloads in one order: always those of the least server, from the least sender.
 # Otherwise only workloads of one site without stops have one report, and the others' are judged alone.
 ORDER_IS_FIXED = True
-# What the program says of a form that isn't built yet.
-NOT_BUILT = b"refused line 0 fault 8 word\n"
 FORMS = list(itertools.product(KINDS, STRUCTURES, (1, 2, 3, 4)))
 
 
@@ -71,17 +63,6 @@ def drawn(rng, k):
     return type(base)(**fields)
 
 
-def run(command, text):
-    done = subprocess.run(command, input=text, capture_output=True, check=False)
-    return done.returncode, done.stdout
-
-
-def expected(w):
-    world = World(w)
-    run_fixed(world)
-    return print_report(w, world.report())
-
-
 def counted(w):
     """What the workload has, for the count."""
     yield f"{w.kind} {w.structure}"
@@ -104,11 +85,11 @@ def main():
         text = print_workload(w)
         w = parse(text)
         status, report = run([program, "run"], text)
-        if (status, report) == (3, NOT_BUILT):
+        if (status, report) == NOT_BUILT:
             refused += 1
             continue
         tally.update(counted(w))
-        wanted = expected(w)
+        _, wanted = expected(text)
         judged = oracle.judged("check", text + report) if status == 0 else None
         alike = report == wanted or not (ORDER_IS_FIXED or w.sites == 1 and not w.events)
         if not alike or judged != (0, "sound\n"):

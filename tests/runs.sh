@@ -2,13 +2,8 @@
 # Compares the program's reports with the reference model's on random workloads of all forms: see runs.py.
 # RAID_ORACLE names the folder of the model, RAID_RUNS how many workloads there are to be (500), RAID_SEED which (1).
 cd "$(dirname "$0")/.." || exit 1
-oracle=${RAID_ORACLE:-../shared/oracle}
-if ! command -v python3 > /dev/null || [ ! -e "$oracle/oracle.py" ]; then
-    echo "runs: skipped, since python3 or the reference model ($oracle) is missing"
-    exit 0
-fi
-RAID_ORACLE=$(cd "$oracle" && pwd)
-export RAID_ORACLE PYTHONDONTWRITEBYTECODE=1
+. tests/model.inc
+need_model runs oracle.py
 if bin/raid run < examples/transfer.txt > /dev/null; then
     exec python3 tests/runs.py bin/raid "${RAID_RUNS:-500}" "${RAID_SEED:-1}"
 fi

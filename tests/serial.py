@@ -1,16 +1,17 @@
 """Compares the program's reports with those of the reference model, byte for byte.
 
-A workload of one site whose transactions go one at a time has one report. This script runs the program
-and the model on the examples and on random workloads of that sort. It compares, and doesn't decide which
-of the two is right.
+This script runs the program and the model on the examples, of whatever form, and on random workloads of one
+site whose transactions go one at a time, which have one report each. It compares, and doesn't decide which
+of the two is right. An example that the program refuses as not built yet is counted, and not compared.
 
-    serial.py PROGRAM ORACLE COUNT [SEED]
+    serial.py PROGRAM COUNT [SEED]
 """
 
 import random
-import subprocess
 import sys
 from pathlib import Path
+
+from program import NOT_BUILT, expected, run
 
 LEAST = -(2**63)
 MOST = 2**63 - 1
@@ -57,24 +58,29 @@ def workload(draw: random.Random) -> bytes:
     return ("\n".join(lines) + draw.choice(["\n", ""])).encode()
 
 
-def run(command: list[str], text: bytes) -> tuple[int, bytes]:
-    done = subprocess.run(command, input=text, capture_output=True, check=False)
-    return done.returncode, done.stdout
+def told(program: str, texts: list[tuple[str, bytes]]) -> list[tuple[str, bytes, tuple[int, bytes]]]:
+    """What the program says of each text."""
+    return [(name, text, run([program, "run"], text)) for name, text in texts]
+
+
+def differs(name: str, text: bytes, ours: tuple[int, bytes]) -> bool:
+    """Whether the model says otherwise, and then both are printed."""
+    theirs = expected(text)
+    if ours != theirs:
+        print(f"{name}: the program and the model differ\n{text.decode()}\n--- program {ours}\n--- model {theirs}")
+    return ours != theirs
 
 
 def main() -> int:
-    program, oracle, count = sys.argv[1], sys.argv[2], int(sys.argv[3])
-    seed = int(sys.argv[4]) if len(sys.argv) > 4 else 1
-    model = [sys.executable, str(Path(oracle) / "oracle.py"), "run"]
-    texts = [(path.name, path.read_bytes()) for path in sorted(Path("examples").glob("*.txt"))]
-    texts += [(f"seed {seed + k}", workload(random.Random(seed + k))) for k in range(count)]
-    failed = 0
-    for name, text in texts:
-        ours, theirs = run([program, "run"], text), run(model, text)
-        if ours != theirs:
-            failed += 1
-            print(f"{name}: the program and the model differ\n{text.decode()}\n--- program {ours}\n--- model {theirs}")
-    print(f"{len(texts)} workloads run one transaction at a time, {len(texts) - failed} reports agree with the model")
+    program, count = sys.argv[1], int(sys.argv[2])
+    seed = int(sys.argv[3]) if len(sys.argv) > 3 else 1
+    examples = [(path.name, path.read_bytes()) for path in sorted(Path("examples").glob("*.txt"))]
+    drawn = [(f"seed {seed + k}", workload(random.Random(seed + k))) for k in range(count)]
+    built = [case for case in told(program, examples) if case[2] != NOT_BUILT]
+    compared = built + told(program, drawn)
+    failed = sum(differs(*case) for case in compared)
+    print(f"serial: {len(examples)} examples, {len(examples) - len(built)} refused as not built yet, and {count} random workloads run one "
+          f"transaction at a time: {len(compared) - failed} reports agree with the model, {failed} don't")
     return 1 if failed else 0
 
 

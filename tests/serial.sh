@@ -1,9 +1,7 @@
 #!/bin/sh
-# Compares the program's reports with the reference model's, on the examples and on random workloads.
-# RAID_ORACLE names the model's folder, RAID_SERIAL how many random workloads are tried.
-oracle=${RAID_ORACLE:-../shared/oracle}
-if ! command -v python3 >/dev/null || [ ! -e "$oracle/oracle.py" ]; then
-    echo "serial: skipped, since python3 or the reference model ($oracle) is missing"
-    exit 0
-fi
-exec python3 tests/serial.py bin/raid "$oracle" "${RAID_SERIAL:-200}"
+# Compares the program's reports with the reference model's, on the examples and on random workloads: see serial.py.
+# RAID_ORACLE names the folder of the model, RAID_SERIAL how many random workloads there are to be (200).
+cd "$(dirname "$0")/.." || exit 1
+. tests/model.inc
+need_model serial oracle.py
+exec python3 tests/serial.py bin/raid "$RAID_ORACLE" "${RAID_SERIAL:-200}"

@@ -1,14 +1,7 @@
-"""Writes values of the reference model as terms of the definitions, in the words of proofs/Scene.
-
-The model lies at RAID_ORACLE, by default ../shared/oracle beside the repository.
-"""
-import os
+"""Writes values of the reference model as terms of the definitions, in the words of proofs/Scene."""
 import re
-import sys
 
-HERE = os.path.dirname(os.path.abspath(__file__))
-ORACLE = os.environ.get("RAID_ORACLE", os.path.join(HERE, "..", "..", "shared", "oracle"))
-sys.path.insert(0, ORACLE)
+import model  # noqa: F401
 
 KINDS = dict(lock="Lock", stamp="Stamp", valid="Valid", graph="Graph")
 METHODS = dict(generic="Generic", convert="Convert", suffix="Suffix")

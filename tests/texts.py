@@ -8,13 +8,12 @@ with them. Each is read by both; the printed workload or the refusal line has to
 The line printed has how many texts came to a workload and to each fault.
 """
 import collections
-import os
 import random
 import struct
 import subprocess
 import sys
 
-sys.path.insert(0, os.environ["RAID_ORACLE"])
+import model  # noqa: F401
 import raid_text
 
 VALUES = ["0", "-0", "5", "007", "-12", "9223372036854775807", "-9223372036854775808", "9223372036854775808",

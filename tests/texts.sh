@@ -2,22 +2,11 @@
 # Reads random and broken workload texts as the reference model does: see texts.py.
 # RAID_ORACLE names the folder of the model, RAID_TEXTS how many texts there are to be (20000), RAID_SEED which (1).
 cd "$(dirname "$0")/.." || exit 1
-oracle=${RAID_ORACLE:-../shared/oracle}
-if ! command -v python3 > /dev/null || [ ! -e "$oracle/raid_text.py" ]; then
-    echo "texts: skipped, since python3 or the reference model ($oracle) is missing"
-    exit 0
-fi
-RAID_ORACLE=$(cd "$oracle" && pwd)
-export RAID_ORACLE PYTHONDONTWRITEBYTECODE=1
-scratch=$(mktemp -d) || exit 1
-trap 'rm -rf "$scratch"' EXIT
+. tests/model.inc
+need_model texts raid_text.py
+make_scratch
 
-# the program, built once on its own small input
-if ! (cd crates/raid_try_text && rt run < stdin > "$scratch/first" 2> "$scratch/log" && cmp -s stdout "$scratch/first"); then
-    tail -5 "$scratch/log"
-    echo "texts: FAILED: raid_try_text is not built"
-    exit 1
-fi
+build texts raid_try_text || exit 1
 if python3 tests/texts.py crates/raid_try_text/out/raid_try_text "${RAID_TEXTS:-20000}" "${RAID_SEED:-1}"; then
     exit 0
 fi

@@ -7,6 +7,7 @@ keep, too, into the crates of a scratch copy.
 import os
 import sys
 
+from model import HERE
 from proving import *
 
 import raid_world
