@@ -10,6 +10,8 @@ import subprocess
 import sys
 import tempfile
 
+from measuring import peak_memory
+
 LONG = (50_000, 100_000, 200_000, 400_000)
 SHORT = (5_000, 10_000, 20_000)
 KINDS = ("lock", "stamp", "valid", "graph")
@@ -18,8 +20,8 @@ PLAIN = {"lock native": 15, "stamp native": 9, "valid native": 12, "graph native
 GENERIC = 57
 
 
-def run(program: str, text: str) -> tuple[float, int]:
-    """Seconds of processor time, and the most memory in KB."""
+def run(program: str, text: str) -> float:
+    """Seconds of processor time."""
     with tempfile.TemporaryFile() as given, tempfile.TemporaryFile() as written:
         given.write(text.encode())
         given.seek(0)
@@ -31,20 +33,21 @@ def run(program: str, text: str) -> tuple[float, int]:
     wanted = f"{text.strip()}: {2 * int(text.split()[2])} grants\n" if text else ""
     if status != 0 or said != wanted:
         sys.exit(f"status {status}, {said!r}, and not {wanted!r}")
-    return used.ru_utime + used.ru_stime, used.ru_maxrss
+    return used.ru_utime + used.ru_stime
 
 
-def best(program: str, text: str, runs: int) -> tuple[float, int]:
+def best(program: str, text: str, runs: int) -> float:
     return min(run(program, text) for _ in range(runs))
 
 
 def row(program: str, name: str, sizes: tuple[int, ...], runs: int, empty: float) -> str:
     plain = PLAIN.get(name, GENERIC if name.endswith("generic") else None)
-    cells, memory = [name, f"{plain} ns" if plain else ""], 0
+    cells = [name, f"{plain} ns" if plain else ""]
     for count in sizes:
-        taken, memory = best(program, f"{name} {count}\n", runs)
+        taken = best(program, f"{name} {count}\n", runs)
         cells.append(f"{(taken - empty) / (2 * count) * 1e9:.0f} ns")
-    return "| " + " | ".join([*cells, f"{memory / 1024:.0f} MB"]) + " |"
+    memory = peak_memory([program], f"{name} {sizes[-1]}\n".encode())
+    return "| " + " | ".join([*cells, memory]) + " |"
 
 
 def table(program: str, names: list[str], sizes: tuple[int, ...], runs: int, empty: float) -> None:
@@ -57,7 +60,7 @@ def table(program: str, names: list[str], sizes: tuple[int, ...], runs: int, emp
 def main() -> None:
     program = sys.argv[1]
     runs = int(sys.argv[2]) if len(sys.argv) > 2 else 7
-    empty, _ = best(program, "", runs)
+    empty = best(program, "", runs)
     flat = [f"{kind} {structure}" for structure in ("native", "generic") for kind in KINDS if kind != "graph"]
     table(program, [*flat, "entries alone"], LONG, runs, empty)
     print()
