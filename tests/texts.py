@@ -174,7 +174,7 @@ def main(program, count, seed):
         print(f"texts: {len(told)} answers to {len(texts)} texts")
         return 1
     for text, answer in zip(texts, told):
-        read = raid_text.parse(text, "R16")
+        read = raid_text.parse(text)
         if isinstance(read, raid_text.Refusal):
             counts[f"fault {read.fault}"] += 1
             wanted = read.text().encode()
