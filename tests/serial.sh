@@ -4,4 +4,4 @@
 cd "$(dirname "$0")/.." || exit 1
 . tests/model.inc
 need_model serial oracle.py
-exec python3 tests/serial.py bin/raid "$RAID_ORACLE" "${RAID_SERIAL:-200}"
+exec python3 tests/serial.py bin/raid "${RAID_SERIAL:-200}"
