@@ -1,5 +1,6 @@
 ghost use Rattle.std.specs.Prelude.{◌≡◌, ◌==◌, ◌<◌, true, false, not, List, [], ◌∷◌, ◌++◌, is_none, length, replicate, drop, slice_get, slice_index_or, IfOk, IfSome, OnOk, OnErr};
 ghost use Rattle.std.specs.List.{list_all};
+ghost use Rattle.raid_links.specs.First.{IsFirst};
 ghost use Rattle.raid_steps.specs.World.{link, set_link};
 
 use crate::row::Row;
@@ -36,6 +37,7 @@ fn rows(alloc: Global, servers: usize) -> Result<Vec<Row>, NoMemory>
 
 /// The place of the first row with a letter, and that of its first link with one.
 fn first_full(rows: &[Row]) -> Option<(usize, usize)>
+    ensures first { IfSome result (λ k. IsFirst rows.now k) }
     ensures some { IfSome result (λ k. (k.0 < length rows.now) × (k.1 < length (slice_index_or rows.now k.0 [])) × ((length (slice_index_or (slice_index_or rows.now k.0 []) k.1 []) == 0) ≡ false)) }
     ensures none { is_none result ≡ list_all (λ row. list_all (λ queue. length queue == 0) row) rows.now }
 {
@@ -86,6 +88,7 @@ impl Links {
 
     /// The least server, and for it the least sender, whose link holds a letter; None exactly where all links are empty.
     pub fn first(&self) -> Option<(usize, usize)>
+        ensures first { IfSome result (λ k. IsFirst self.now k) }
         ensures some { IfSome result (λ k. (k.0 < length self.now) × (k.1 < length (slice_index_or self.now k.0 [])) × ((length (link self.now k.0 k.1) == 0) ≡ false)) }
         ensures none { is_none result ≡ list_all (λ row. list_all (λ queue. length queue == 0) row) self.now }
     {

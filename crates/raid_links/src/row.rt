@@ -1,5 +1,6 @@
 ghost use Rattle.std.specs.Prelude.{◌≡◌, ◌==◌, ◌<◌, true, false, is_none, drop, List, [], ◌∷◌, ◌++◌, length, replicate, slice_get, slice_set, slice_index_or, IfOk, IfSome, OnOk, OnErr};
 ghost use Rattle.std.specs.List.{list_all};
+ghost use Rattle.raid_links.specs.First.{IsFirstSender};
 ghost use Rattle.raid_message.specs.declared.letter.Letter.{Letter};
 
 use crate::queue::Queue;
@@ -79,6 +80,7 @@ impl Row {
 
     /// The least sender with a letter on its link; None exactly where there is none.
     pub fn first(&self) -> Option<usize>
+        ensures first { IfSome result (λ k. IsFirstSender self.now k) }
         ensures some { IfSome result (λ k. (k < length self.now) × ((length (slice_index_or self.now k []) == 0) ≡ false)) }
         ensures none { is_none result ≡ list_all (λ queue. length queue == 0) self.now }
     {
@@ -88,6 +90,7 @@ impl Row {
 
 /// The place of the first queue with a letter.
 fn first_full(queues: &[Queue]) -> Option<usize>
+    ensures first { IfSome result (λ k. IsFirstSender queues.now k) }
     ensures some { IfSome result (λ k. (k < length queues.now) × ((length (slice_index_or queues.now k []) == 0) ≡ false)) }
     ensures none { is_none result ≡ list_all (λ queue. length queue == 0) queues.now }
 {

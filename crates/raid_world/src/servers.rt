@@ -1,5 +1,6 @@
 //! All servers of a workload.
 ghost use Rattle.std.specs.Prelude.{◌≡◌, ◌<◌, ◌≤◌, ◌+◌, ◌==◌, ℕ, true, map, length, IfOk, OnOk, if◌then◌else◌};
+ghost use Rattle.raid_workload.specs.declared.workload.Workload.{Workload};
 ghost use Rattle.raid_sequencer.specs.Runs as deciding;
 ghost use Rattle.raid_force.specs.Lasting.{AreClear, are_whole};
 ghost use Rattle.raid_steps.specs.World as steps;
@@ -166,5 +167,15 @@ impl Servers {
             finals,
             copies,
         })
+    }
+
+    /// The rack with all controllers back in it and cleared; but those for `once` that were taken are dropped. Takes no memory.
+    pub fn close(self) -> Rack
+        requires go { (w : Workload) × Go ⟦<dyn Controller as Controller>⟧ w self }
+        ensures whole { are_whole ⟦<dyn Controller as Controller>⟧ result.slots.items ≡ true }
+        ensures clear { AreClear ⟦<dyn Controller as Controller>⟧ result.slots.items }
+    {
+        let sequencer = self.sequencer;
+        sequencer.close()
     }
 }

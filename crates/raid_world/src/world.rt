@@ -4,6 +4,7 @@ ghost use Rattle.raid_message.specs.declared.letter.Letter.{Letter};
 ghost use Rattle.raid_workload.specs.declared.workload.Workload.{Workload};
 ghost use Rattle.raid_force.specs.Lasting.{AreClear, are_whole};
 ghost use Rattle.raid_steps.specs.World as steps;
+ghost use Rattle.raid_links.specs.First.{IsFirst};
 ghost use Rattle.raid_world.specs.Stands as words;
 ghost use Rattle.raid_world.specs.Stands.{AreLinks, Live, Stands, Runs, all_steps};
 
@@ -156,6 +157,7 @@ impl World {
         requires { (w : Workload) × Runs ⟦<dyn Controller as Controller>⟧ w self.now }
         ensures servers { IfSome result (λ p. (w : Workload) → Runs ⟦<dyn Controller as Controller>⟧ w self.now → (p.server < w.sites + 2) × (p.from < w.sites + 2)) }
         ensures finds { IfSome result (λ p. (s : steps.World) → Stands self.now s → steps.finds s p ≡ true) }
+        ensures first { IfSome result (λ p. (s : steps.World) → Stands self.now s → IsFirst s.links (p.server, p.from)) }
         ensures idle { (s : steps.World) → Stands self.now s → is_none result ≡ steps.is_idle s }
     {
         let (server, from) = self.links.first()?;
@@ -176,6 +178,18 @@ impl World {
     {
         let report = self.servers.report(alloc, workload)?;
         Ok(report)
+    }
+
+    /// The rack that it was made with: all controllers are back in it and cleared; but those for `once` that were taken are dropped. The
+    /// world must not be finished. Takes no memory.
+    pub fn close(self) -> Rack
+        requires runs { (w : Workload) × Runs ⟦<dyn Controller as Controller>⟧ w self }
+        requires goes_on { words.is_finished self ≡ false }
+        ensures whole { are_whole ⟦<dyn Controller as Controller>⟧ result.slots.items ≡ true }
+        ensures clear { AreClear ⟦<dyn Controller as Controller>⟧ result.slots.items }
+    {
+        let servers = self.servers;
+        servers.close()
     }
 
     /// Whether it was refused memory.
