@@ -6,9 +6,6 @@ import oracle
 from raid_report import print_report
 from raid_world import World, run_fixed
 
-# What the program says of a form that isn't built yet.
-NOT_BUILT = (3, b"refused line 0 fault 8 word\n")
-
 
 def run(command, text):
     """The status of the command with this text as its input, and what it wrote."""
