@@ -3,21 +3,38 @@
 
 use raid_app::{Words, run};
 use raid_base::NoMemory;
+use raid_full_rack::{Controllers, full_rack};
 use raid_io::{InputSource, OutputSink};
 use std::env;
 use std::process::ExitCode;
 
-/// The status of a call that finds no memory for its words.
+/// The status of a call that finds no memory for its words or its controllers.
 const NO_MEMORY: u8 = 6;
 
 fn main(rt: HostRuntime) -> ExitCode {
-    let Ok(words) = words(&rt) else {
-        return ExitCode::from(NO_MEMORY);
-    };
+    match serve(&rt) {
+        Ok(status) => ExitCode::from(status),
+        Err(NoMemory) => ExitCode::from(NO_MEMORY),
+    }
+}
+
+/// Does what the words of the command line ask for, and answers the status.
+fn serve(rt: &HostRuntime) -> Result<u8, NoMemory> {
+    let words = words(rt)?;
+    let made = Controllers::new(rt.alloc())?;
+    let rack = full_rack(
+        rt.alloc(),
+        made.lock,
+        made.stamp,
+        made.valid,
+        made.graph,
+        made.first,
+        made.second,
+    )?;
     let mut source = InputSource::new(rt.stdin());
     let mut sink = OutputSink::new(rt.stdout());
-    let ended = run(rt.alloc(), &words, &mut source, &mut sink);
-    ExitCode::from(ended.status)
+    let ended = run(rt.alloc(), &words, &mut source, &mut sink, rack);
+    Ok(ended.status)
 }
 
 /// The words of the command line, without the program's own name.

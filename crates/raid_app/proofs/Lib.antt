@@ -1,9 +1,5 @@
-pub mod Items
-pub mod Kept
-pub mod Known
-pub mod Programs
-pub mod Reported
+pub mod Bound
+pub mod Counts
+pub mod Picks
 pub mod Sayings
-pub mod Steps
-pub mod Values
-pub mod Versions
+pub mod Taken

@@ -1,40 +1,55 @@
 -- What is said of texts and workloads, from the facts that the code finds.
-use Rattle.std.proofs.Common.{◌≡◌, ℕ, ◌+◌, ◌<◌, ◌≤◌, Bool, true, false, List, length, subst, sym, Option}
-use Rattle.std.specs.Prelude.{Result, Ok, Err, IfOk, IfErr}
+use Rattle.std.proofs.Common.{◌≡◌, ℕ, ◌<◌, ◌≤◌, Bool, true, false, List, length, subst, sym, ap, ◌∙◌, refl, Option, Some, None}
+use Rattle.std.specs.Prelude.{Result, Ok, Err, IfOk, IfErr, OnErr, is_some, is_none}
 use Rattle.raid_base.specs.declared.names.NoMemory.{NoMemory}
+use Rattle.raid_base.specs.declared.report.Report.{Report}
 use Rattle.raid_tokens.specs.declared.fault.Fault.{Fault}
-use Rattle.raid_tokens.specs.declared.fault.Fault.TheVariants.{Word}
+use Rattle.raid_message.specs.declared.letter.Pick.{Pick}
 use Rattle.raid_workload.specs.declared.workload.Workload.{Workload}
 use Rattle.raid_text.specs.declared.error.Refused.{Refused}
 use Rattle.raid_text.specs.declared.error.Refused.TheVariants.{Text}
 use Rattle.raid_text.specs.Outcome.{Reads, IsFirstFault, IsFirst}
-use Rattle.raid_report.specs.Spelling.{print_of}
+use Rattle.raid_text.specs.Spelling as texts
+use Rattle.raid_generator.specs.Made.{IsMade}
+use Rattle.raid_steps.specs.World.{run, report, is_idle}
+use Rattle.raid_command.specs.declared.asked.Command.{Command}
+use Rattle.raid_command.specs.declared.asked.Command.TheVariants as commands
+use Rattle.raid_command.specs.Asked.{command_of}
 use Rattle.raid_io.specs.declared.whole.ReadError.{ReadError}
 use Rattle.raid_io.specs.declared.whole.ReadError.TheVariants as errors
 use Rattle.raid_io.specs.Whole.{OnFailed}
 use Rattle.raid_app.specs.declared.answer.Answer.{Answer}
-use Rattle.raid_app.specs.Answer.{limit, refused, Runs, unbuilt, done, Says, long, faulty, reads, HasRead, Answers}
-use Rattle.raid_app.specs.Ended as Ended
-use Rattle.raid_app.specs.Ended.{Change, Said}
-use Rattle.raid_app.specs.Lines.{too_long_line, fault_line}
-use Rattle.raid_app.specs.OneByOne.{is_one_by_one, serial_report}
+use Rattle.raid_app.specs.Answer.{limit, saying, silent, told, Runs, idle, Says, long, faulty, reads, HasRead, Answers, read, no_memory, Asked}
+use Rattle.raid_app.specs.Answer as answers
+use Rattle.raid_app.specs.Change.{Change}
+use Rattle.raid_app.specs.Lines.{usage_line, too_long_line, fault_line}
+use Rattle.raid_app.specs.Picked.{IsRun}
 
-pub runs_unbuilt : (w : Workload) (t : List ℕ) → is_one_by_one w ≡ false → t ≡ fault_line 0 Word → Runs w (record { status = 3; text = t })
-runs_unbuilt w t h e = subst (λ u. Runs w (record { status = 3; text = u })) (sym e) (unbuilt h)
+-- what is there isn't nothing
+pub not_none : {X : Type 0} (o : Option X) → is_some o ≡ true → is_none o ≡ false
+not_none (Some x) h = refl
+not_none None h = absurd (let e : false ≡ true = h in cc)
 
-pub runs_done : (w : Workload) (t : List ℕ) → is_one_by_one w ≡ true → t ≡ print_of w (serial_report w) → Runs w (record { status = 0; text = t })
-runs_done w t h e = subst (λ u. Runs w (record { status = 0; text = u })) (sym e) (done h)
+pub none_there : {X : Type 0} (o : Option X) → is_some o ≡ false → is_none o ≡ true
+none_there (Some x) h = absurd (let e : true ≡ false = h in cc)
+none_there None h = refl
 
-pub says_faulty : (text : List ℕ) (line : ℕ) (fault : Fault) (t : List ℕ) → length text ≤ limit → IsFirstFault text line fault → t ≡ fault_line line fault → Says text (record { status = 3; text = t })
-says_faulty text line fault t b f e = subst (λ u. Says text (record { status = 3; text = u })) (sym e) (faulty line fault b f)
+-- the report of a run in which no letter is left is said
+pub said_report : (brief : Bool) (w : Workload) (schedule : List Pick) (r : Report) (text : List ℕ) → IsRun w schedule → is_idle (run w schedule) ≡ true → r ≡ report w (run w schedule).servers → text ≡ told brief w r →
+    Runs brief w (record { status = 0; text = Some text; schedule = schedule })
+said_report brief w schedule r text is end e f =
+    subst (λ t. Runs brief w (record { status = 0; text = Some t; schedule = schedule })) (sym (f ∙ ap (told brief w) e)) (idle schedule is end)
 
-pub says_reads : (text : List ℕ) (w : Workload) (r : Result Answer NoMemory) → length text ≤ limit → Reads text w → IfOk r (Runs w) → IfOk r (Says text)
-says_reads text w (Ok a) b k s = reads w a b k s
-says_reads text w (Err e) b k s = tt
+pub says_faulty : (brief : Bool) (text : List ℕ) (line : ℕ) (fault : Fault) (answer : Answer) (t : List ℕ) → length text ≤ limit → IsFirstFault text line fault → answer ≡ saying 3 t → t ≡ fault_line line fault → Says brief text answer
+says_faulty brief text line fault answer t b f e g = subst (Says brief text) (sym (e ∙ ap (saying 3) g)) (faulty line fault b f)
 
-pub says_long : (text : List ℕ) (r : Result Answer NoMemory) → limit < length text → IfOk r (λ a. a ≡ refused too_long_line) → IfOk r (Says text)
-says_long text (Ok a) b e = subst (Says text) (sym e) (long b)
-says_long text (Err e) b h = tt
+pub says_reads : (brief : Bool) (text : List ℕ) (w : Workload) (r : Result Answer NoMemory) → length text ≤ limit → Reads text w → IfOk r (Runs brief w) → IfOk r (Says brief text)
+says_reads brief text w (Ok a) b k s = reads w a b k s
+says_reads brief text w (Err e) b k s = tt
+
+pub says_long : (brief : Bool) (text : List ℕ) (r : Result Answer NoMemory) → limit < length text → IfOk r (λ a. a ≡ saying 3 too_long_line) → IfOk r (Says brief text)
+says_long brief text (Ok a) b e = subst (Says brief text) (sym e) (long b)
+says_long brief text (Err e) b h = tt
 
 -- a refusal that was given names the text's first fault
 pub first_fault : (text : List ℕ) (line : ℕ) (fault : Fault) (r : Result Workload Refused) → r ≡ Err (Text line fault) → IfErr r (IsFirst text) → IsFirstFault text line fault
@@ -44,6 +59,23 @@ first_fault text line fault r e h = subst (λ (q : Result Workload Refused). IfE
 pub where_failed : {T P : Type 0} (r : Result T ReadError) → r ≡ Err errors.Failed → OnFailed r P → P
 where_failed {T} {P} r e h = subst (λ (q : Result T ReadError). OnFailed q P) e h
 
--- the text that was written is the answer's
-pub answered_by : (source sink : Change) (answer : Answer) (text : List ℕ) (status : ℕ) → Answers source.before source.after answer → text ≡ answer.text → Said answer.status text sink status → Ended.Runs source sink status
-answered_by source sink answer text status a e s = Ended.answered answer status a (subst (λ t. Said answer.status t sink status) e s)
+-- an answer that was found, or silence, where memory was refused
+pub settled_read : (brief : Bool) (source : Change) (text : List ℕ) (found : Result Answer NoMemory) (answer : Answer) → HasRead source.before source.after text → IfOk found (Says brief text) →
+    IfOk found (λ a. answer ≡ a) → OnErr found (answer ≡ silent 6) → Answers brief source answer
+settled_read brief source text (Ok a) answer h s f e = subst (Answers brief source) (sym f) (read text a h s)
+settled_read brief source text (Err x) answer h s f e = subst (Answers brief source) (sym e) no_memory
+
+pub settled_usage : (words : List (List ℕ)) (source : Change) (found : Result Answer NoMemory) (answer : Answer) → command_of words ≡ None → source.after ≡ source.before → IfOk found (λ a. a ≡ saying 2 usage_line) →
+    IfOk found (λ a. answer ≡ a) → OnErr found (answer ≡ silent 6) → Asked words source answer
+settled_usage words source (Ok a) answer none same s f e = subst (Asked words source) (sym (f ∙ s)) (answers.usage none same)
+settled_usage words source (Err x) answer none same s f e = subst (Asked words source) (sym e) (answers.no_memory same)
+
+pub settled_made : (words : List (List ℕ)) (source : Change) (seed count : ℕ) (found : Result Answer NoMemory) (answer : Answer) → command_of words ≡ Some (commands.Make seed count) → source.after ≡ source.before →
+    IfOk found (λ a. (w : Workload) × IsMade seed count w × (a ≡ saying 0 (texts.print_of w))) →
+    IfOk found (λ a. answer ≡ a) → OnErr found (answer ≡ silent 6) → Asked words source answer
+settled_made words source seed count (Ok a) answer asked same s f e = subst (Asked words source) (sym (f ∙ s.2)) (answers.made seed count s.0 asked same s.1)
+settled_made words source seed count (Err x) answer asked same s f e = subst (Asked words source) (sym e) (answers.no_memory same)
+
+-- the command that was found is what the words ask for
+pub found_command : (words : List (List ℕ)) (found : Result (Option Command) NoMemory) (command : Option Command) → found ≡ Ok command → IfOk found (λ c. c ≡ command_of words) → command_of words ≡ command
+found_command words found command e h = sym (subst (λ (q : Result (Option Command) NoMemory). IfOk q (λ c. c ≡ command_of words)) e h)

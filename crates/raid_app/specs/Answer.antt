@@ -1,38 +1,51 @@
 -- What the program is to say, by its words and the bytes that it reads.
-use Rattle.std.specs.Prelude.{◌≡◌, ℕ, ◌+◌, ◌<◌, ◌≤◌, Bool, true, false, List, [], ◌∷◌, length, codes, bytes_eq, Option}
+use Rattle.std.specs.Prelude.{◌≡◌, ℕ, ◌+◌, ◌<◌, ◌≤◌, Bool, true, false, List, [], length, Option, Some, None}
+use Rattle.raid_base.specs.declared.report.Report.{Report}
 use Rattle.raid_tokens.specs.declared.fault.Fault.{Fault}
-use Rattle.raid_tokens.specs.declared.fault.Fault.TheVariants.{Word}
+use Rattle.raid_message.specs.declared.letter.Pick.{Pick}
 use Rattle.raid_workload.specs.declared.workload.Workload.{Workload}
 use Rattle.raid_text.specs.Outcome.{Reads, IsFirstFault}
+use Rattle.raid_text.specs.Spelling as texts
+use Rattle.raid_generator.specs.Made.{IsMade}
+use Rattle.raid_steps.specs.World.{run, report, rounds, is_idle}
 use Rattle.raid_report.specs.Spelling.{print_of}
+use Rattle.raid_report.specs.Brief.{brief_of}
+use Rattle.raid_command.specs.declared.asked.Command.TheVariants as commands
+use Rattle.raid_command.specs.Asked.{command_of}
 use Rattle.raid_io.specs.Ends.{Took, IsAtEnd}
+use Rattle.raid_io.specs.Faults.{Rose}
 use Rattle.raid_app.specs.declared.answer.Answer.{Answer}
-use Rattle.raid_app.specs.Lines.{too_long_line, fault_line}
-use Rattle.raid_app.specs.OneByOne.{is_one_by_one, serial_report}
+use Rattle.raid_app.specs.Change.{Change}
+use Rattle.raid_app.specs.Lines.{usage_line, too_long_line, fault_line}
+use Rattle.raid_app.specs.Picked.{IsRun}
 
 -- the most bytes that a text may have
 abbrev pub limit : ℕ
 limit = 4194304
 
--- the words are the one word `run`
-abbrev pub is_run : List (List ℕ) → Bool
-is_run [] = false
-is_run (word ∷ []) = bytes_eq word (codes "run")
-is_run (word ∷ next ∷ rest) = false
+-- a text is to be written with this status, and there was no run; nothing is to be written, and there was no run
+abbrev pub saying : ℕ → List ℕ → Answer
+saying status text = record { status = status; text = Some text; schedule = [] }
 
-abbrev pub refused : List ℕ → Answer
-refused text = record { status = 3; text = text }
+abbrev pub silent : ℕ → Answer
+silent status = record { status = status; text = None; schedule = [] }
 
--- what is to be said of a workload: that it can't be run yet, as a word that isn't known, or the report of its run
-pub data Runs (w : Workload) : Answer → Type 0 where
-  unbuilt : is_one_by_one w ≡ false → Runs w (refused (fault_line 0 Word))
-  done : is_one_by_one w ≡ true → Runs w (record { status = 0; text = print_of w (serial_report w) })
+-- what is written of a report: its summary, or its whole text
+abbrev pub told : Bool → Workload → Report → List ℕ
+told true w r = brief_of w r
+told false w r = print_of w r
+
+-- what is to be said of a workload whose servers were run in the fixed order: once no letter is left, what is written of its report; or
+-- nothing, as a letter is left after as many picks as the bound on a run
+pub data Runs (brief : Bool) (w : Workload) : Answer → Type 0 where
+  idle : (schedule : List Pick) → IsRun w schedule → is_idle (run w schedule) ≡ true → Runs brief w (record { status = 0; text = Some (told brief w (report w (run w schedule).servers)); schedule = schedule })
+  spent : (schedule : List Pick) → IsRun w schedule → length schedule ≡ rounds w → is_idle (run w schedule) ≡ false → Runs brief w (record { status = 7; text = None; schedule = schedule })
 
 -- what is to be said of a text: that it is too long; what its first fault is; or what is to be said of the workload that it says
-pub data Says (text : List ℕ) : Answer → Type 0 where
-  long : limit < length text → Says text (refused too_long_line)
-  faulty : (line : ℕ) (fault : Fault) → length text ≤ limit → IsFirstFault text line fault → Says text (refused (fault_line line fault))
-  reads : (w : Workload) (answer : Answer) → length text ≤ limit → Reads text w → Runs w answer → Says text answer
+pub data Says (brief : Bool) (text : List ℕ) : Answer → Type 0 where
+  long : limit < length text → Says brief text (saying 3 too_long_line)
+  faulty : (line : ℕ) (fault : Fault) → length text ≤ limit → IsFirstFault text line fault → Says brief text (saying 3 (fault_line line fault))
+  reads : (w : Workload) (answer : Answer) → length text ≤ limit → Reads text w → Runs brief w answer → Says brief text answer
 
 -- the text was read from the source: to its end, or one byte past the limit
 pub record HasRead (before after : Option (List ℕ)) (text : List ℕ) : Type 0 where
@@ -40,8 +53,17 @@ pub record HasRead (before after : Option (List ℕ)) (text : List ℕ) : Type 0
   pub bound : length text ≤ limit + 1
   pub whole : length text ≤ limit → IsAtEnd after
 
--- what is to be said of the text that was read from the source
-pub record Answers (before after : Option (List ℕ)) (answer : Answer) : Type 0 where
-  pub text : List ℕ
-  pub read : HasRead before after text
-  pub says : Says text answer
+-- what is to be said by the command `run`: what is to be said of the text that was read from the source; or nothing, as the source failed
+-- or memory was refused
+pub data Answers (brief : Bool) (source : Change) : Answer → Type 0 where
+  read : (text : List ℕ) (answer : Answer) → HasRead source.before source.after text → Says brief text answer → Answers brief source answer
+  unread : Rose source.faults source.faults_after → Answers brief source (silent 4)
+  no_memory : Answers brief source (silent 6)
+
+-- what is to be said to these words: how the program is called, the workload that they make, or what the command `run` says; or nothing, as
+-- memory was refused. All but `run` leave the source as it was
+pub data Asked (words : List (List ℕ)) (source : Change) : Answer → Type 0 where
+  usage : command_of words ≡ None → source.after ≡ source.before → Asked words source (saying 2 usage_line)
+  made : (seed count : ℕ) (w : Workload) → command_of words ≡ Some (commands.Make seed count) → source.after ≡ source.before → IsMade seed count w → Asked words source (saying 0 (texts.print_of w))
+  ran : (brief : Bool) (answer : Answer) → command_of words ≡ Some (commands.Run brief) → Answers brief source answer → Asked words source answer
+  no_memory : source.after ≡ source.before → Asked words source (silent 6)

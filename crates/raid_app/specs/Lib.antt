@@ -1,5 +1,5 @@
 pub mod Answer
+pub mod Change
 pub mod Ended
 pub mod Lines
-pub mod OneByOne
-pub mod Progress
+pub mod Picked

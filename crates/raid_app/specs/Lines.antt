@@ -9,7 +9,7 @@ line text = text ++ 10 ∷ []
 
 -- how the program is called
 abbrev pub usage_line : List ℕ
-usage_line = line (codes "usage: raid run")
+usage_line = line (codes "usage: raid run [--brief] | raid make --seed N --count N")
 
 -- why a text was refused: it is too long, or what is wrong first and on which line
 abbrev pub too_long_line : List ℕ

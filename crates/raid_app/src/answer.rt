@@ -1,84 +1,157 @@
-ghost use Rattle.std.specs.Prelude.{◌≡◌, ℕ, ◌≤◌, true, length, IfOk};
-ghost use Rattle.raid_io.specs.Whole.{OnFailed};
-ghost use Rattle.raid_io.specs.Faults.{Rose};
-ghost use Rattle.raid_app.specs.Answer.{Answers, Runs, Says, limit, refused};
-ghost use Rattle.raid_app.specs.Lines.{too_long_line};
+ghost use Rattle.std.specs.Prelude.{◌≡◌, ℕ, ◌≤◌, true, length, IfOk, OnErr};
+ghost use Rattle.raid_workload.specs.declared.workload.Workload.{Workload};
+ghost use Rattle.raid_generator.specs.Made.{IsMade};
+ghost use Rattle.raid_text.specs.Spelling.{print_of};
+ghost use Rattle.raid_force.specs.Lasting.{AreClear, are_whole};
+ghost use Rattle.raid_app.specs.Answer.{Answers, Asked, Says, limit, saying, silent};
+ghost use Rattle.raid_app.specs.Lines.{too_long_line, usage_line};
 
-use crate::lines::{TOO_LONG, copied, fault_line};
-use crate::serial::{is_one_by_one, serial_report};
-use raid_base::{Bytes, NoMemory};
+use crate::lines::{TOO_LONG_LINE, USAGE_LINE, copied, fault_line};
+use crate::running::run_workload;
+use crate::statuses::{DONE, NO_MEMORY, REFUSED, UNREAD, USAGE};
+use raid_base::{Bytes, Listed, NoMemory};
+use raid_command::{Command, Words, command};
+use raid_control::{Controller, Rack};
+use raid_generator::make;
 use raid_io::{ReadError, Source, read_up_to};
-use raid_report::print;
-use raid_text::{Refused, parse};
-use raid_tokens::Fault;
-use raid_workload::Workload;
+use raid_message::Pick;
+use raid_text::{Refused, parse, print};
 use std::alloc::Global;
 
 /// The most bytes that a workload text may have.
 pub const LIMIT: usize = 4_194_304;
 
-/// What is to be said: a status, and a text to write.
+/// The picks of a run, in order.
+pub type Schedule = Listed<Pick>;
+
+/// What is to be said at the end of a call.
 #[derive(Drop, Debug)]
 pub struct Answer {
+    /// The status, where the text can be written.
     pub status: u8,
-    pub text: Bytes,
+    /// The text to write; None where nothing is to be written.
+    pub text: Option<Bytes>,
+    /// The picks of the run that was made; none where there was no run.
+    pub schedule: Schedule,
 }
 
-/// What is to be said of a workload that reads well: the report of its run, or that it can't be run yet.
-fn answer_workload(alloc: Global, workload: &Workload) -> Result<Answer, NoMemory>
-    ensures { IfOk result (Runs workload.now) }
-{
-    if !is_one_by_one(workload) {
-        let text = fault_line(alloc, 0, Fault::Word)?;
-        return Ok(Answer { status: 3, text });
+impl Answer {
+    /// The text is to be written, with this status. There was no run.
+    fn saying(alloc: Global, status: u8, text: Bytes) -> Answer
+        ensures { result ≡ saying status text }
+    {
+        Answer {
+            status,
+            text: Some(text),
+            schedule: Schedule::new(alloc),
+        }
     }
-    let report = serial_report(alloc, workload)?;
-    let text = print(alloc, workload, &report)?;
-    Ok(Answer { status: 0, text })
-}
 
-/// What is to be said of a text that isn't too long.
-fn answer_text(alloc: Global, text: &[u8]) -> Result<Answer, NoMemory>
-    requires { length text.now ≤ limit }
-    ensures { IfOk result (Says text.now) }
-{
-    match parse(alloc, text) {
-        Ok(workload) => answer_workload(alloc, &workload),
-        Err(Refused::NoMemory) => Err(NoMemory),
-        Err(Refused::Text { line, fault }) => {
-            let text = fault_line(alloc, line, fault)?;
-            Ok(Answer { status: 3, text })
+    /// Nothing is to be written, and there was no run.
+    fn silent(alloc: Global, status: u8) -> Answer
+        ensures { result ≡ silent status }
+    {
+        Answer {
+            status,
+            text: None,
+            schedule: Schedule::new(alloc),
+        }
+    }
+
+    /// What is to be said of words that are no command.
+    fn usage(alloc: Global) -> Result<Answer, NoMemory>
+        ensures { IfOk result (λ a. a ≡ saying 2 usage_line) }
+    {
+        let text = copied(alloc, USAGE_LINE)?;
+        Ok(Answer::saying(alloc, USAGE, text))
+    }
+
+    /// What is to be said of a text that is too long.
+    fn too_long(alloc: Global) -> Result<Answer, NoMemory>
+        ensures { IfOk result (λ a. a ≡ saying 3 too_long_line) }
+    {
+        let text = copied(alloc, TOO_LONG_LINE)?;
+        Ok(Answer::saying(alloc, REFUSED, text))
+    }
+
+    /// The answer that was found; nothing is said where memory was refused.
+    fn settled(alloc: Global, found: Result<Answer, NoMemory>) -> Answer
+        ensures found { IfOk found (λ a. result ≡ a) }
+        ensures refused { OnErr found (result ≡ silent 6) }
+    {
+        match found {
+            Ok(answer) => answer,
+            Err(NoMemory) => Answer::silent(alloc, NO_MEMORY),
         }
     }
 }
 
-/// That a text is too long.
-fn too_long(alloc: Global) -> Result<Answer, NoMemory>
-    ensures { IfOk result (λ a. a ≡ refused too_long_line) }
+/// The workload that a seed and a count make is to be written.
+fn answer_make(alloc: Global, seed: u32, count: u32) -> Result<Answer, NoMemory>
+    requires some { 1 ≤ count }
+    requires few { count ≤ 2000 }
+    ensures { IfOk result (λ a. (w : Workload) × IsMade seed count w × (a ≡ saying 0 (print_of w))) }
 {
-    let text = copied(alloc, TOO_LONG)?;
-    Ok(Answer { status: 3, text })
+    let workload = make(alloc, seed, count)?;
+    let text = print(alloc, &workload)?;
+    Ok(Answer::saying(alloc, DONE, text))
 }
 
-/// What is to be said of these bytes.
-fn answer_bytes(alloc: Global, text: &[u8]) -> Result<Answer, NoMemory>
-    ensures { IfOk result (Says text.now) }
+/// What is to be said of a text that isn't too long.
+fn answer_text(alloc: Global, brief: bool, text: &[u8], rack: Rack) -> Result<Answer, NoMemory>
+    requires short { length text.now ≤ limit }
+    requires whole { are_whole ⟦<dyn Controller as Controller>⟧ rack.slots.items ≡ true }
+    requires clear { AreClear ⟦<dyn Controller as Controller>⟧ rack.slots.items }
+    ensures { IfOk result (Says brief text.now) }
 {
-    if text.len() > LIMIT {
-        too_long(alloc)
-    } else {
-        answer_text(alloc, text)
+    match parse(alloc, text) {
+        Ok(workload) => run_workload(alloc, brief, &workload, rack),
+        Err(Refused::NoMemory) => Err(NoMemory),
+        Err(Refused::Text { line, fault }) => {
+            let text = fault_line(alloc, line, fault)?;
+            Ok(Answer::saying(alloc, REFUSED, text))
+        }
     }
 }
 
-/// What is to be said of the bytes of a source. `Failed` comes only where the source's count of faults rose.
-pub fn answer_source<S: Source>(alloc: Global, source: &mut S) -> Result<Answer, ReadError>
-    ensures answer { IfOk result (λ a. Answers (S.left source.old) (S.left source.new) a) }
-    ensures failed { OnFailed result (Rose (S.faults source.old) (S.faults source.new)) }
+/// What is to be said of these bytes.
+fn answer_bytes(alloc: Global, brief: bool, text: &[u8], rack: Rack) -> Result<Answer, NoMemory>
+    requires whole { are_whole ⟦<dyn Controller as Controller>⟧ rack.slots.items ≡ true }
+    requires clear { AreClear ⟦<dyn Controller as Controller>⟧ rack.slots.items }
+    ensures { IfOk result (Says brief text.now) }
 {
-    let text = read_up_to(alloc, source, LIMIT + 1)?;
-    match answer_bytes(alloc, text.as_slice()) {
-        Ok(answer) => Ok(answer),
-        Err(NoMemory) => Err(ReadError::NoMemory),
+    if text.len() > LIMIT {
+        Answer::too_long(alloc)
+    } else {
+        answer_text(alloc, brief, text, rack)
+    }
+}
+
+/// What is to be said of the bytes of a source.
+fn answer_source<S: Source>(alloc: Global, brief: bool, source: &mut S, rack: Rack) -> Answer
+    requires whole { are_whole ⟦<dyn Controller as Controller>⟧ rack.slots.items ≡ true }
+    requires clear { AreClear ⟦<dyn Controller as Controller>⟧ rack.slots.items }
+    ensures { Answers brief (record { before = S.left source.old; after = S.left source.new; faults = S.faults source.old; faults_after = S.faults source.new }) result }
+{
+    match read_up_to(alloc, source, LIMIT + 1) {
+        Ok(text) => Answer::settled(alloc, answer_bytes(alloc, brief, text.as_slice(), rack)),
+        Err(ReadError::Failed) => Answer::silent(alloc, UNREAD),
+        Err(ReadError::NoMemory) => Answer::silent(alloc, NO_MEMORY),
+    }
+}
+
+/// What is to be said to these words. Only the command `run` reads the source.
+pub fn answer_words<S: Source>(alloc: Global, words: &Words, source: &mut S, rack: Rack) -> Answer
+    requires whole { are_whole ⟦<dyn Controller as Controller>⟧ rack.slots.items ≡ true }
+    requires clear { AreClear ⟦<dyn Controller as Controller>⟧ rack.slots.items }
+    ensures { Asked words.now (record { before = S.left source.old; after = S.left source.new; faults = S.faults source.old; faults_after = S.faults source.new }) result }
+{
+    match command(alloc, words) {
+        Ok(Some(Command::Run { brief })) => answer_source(alloc, brief, source, rack),
+        Ok(Some(Command::Make { seed, count })) => {
+            Answer::settled(alloc, answer_make(alloc, seed, count))
+        }
+        Ok(None) => Answer::settled(alloc, Answer::usage(alloc)),
+        Err(NoMemory) => Answer::silent(alloc, NO_MEMORY),
     }
 }

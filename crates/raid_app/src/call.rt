@@ -1,17 +1,13 @@
-ghost use Rattle.std.specs.Prelude.{◌≡◌, []};
-ghost use Rattle.raid_app.specs.Answer.{is_run as says_run};
-ghost use Rattle.raid_app.specs.Ended.{Ends, Runs, Said};
+ghost use Rattle.std.specs.Prelude.{◌≡◌, true};
+ghost use Rattle.raid_force.specs.Lasting.{AreClear, are_whole};
+ghost use Rattle.raid_app.specs.Ended.{Ends, Said, IsWritten};
 
-use crate::answer::answer_source;
-use crate::lines::USAGE;
-use crate::words::Words;
-use raid_base::Listed;
-use raid_io::{Failed, ReadError, Sink, Source, write_all};
-use raid_message::Pick;
+use crate::answer::{Answer, Schedule, answer_words};
+use crate::statuses::UNWRITTEN;
+use raid_command::Words;
+use raid_control::{Controller, Rack};
+use raid_io::{Failed, Sink, Source, write_all};
 use std::alloc::Global;
-
-/// The picks of a run, in order.
-pub type Schedule = Listed<Pick>;
 
 /// How a call of the program ended: its status, and the picks of the run that it made.
 #[derive(Drop, Debug)]
@@ -20,64 +16,62 @@ pub struct Ended {
     pub schedule: Schedule,
 }
 
-/// Does what the words ask for: `run` reads a workload text, runs it, and writes the report.
+/// Does what the words ask for: `run` reads a workload text, runs its servers on one thread and writes the report, with `--brief` the
+/// summary; `make` writes a workload made from a seed.
 ///
 /// | status | comes | written |
 /// |---|---|---|
-/// | 0 | the run was made | the report |
-/// | 2 | exactly where the words aren't the one word `run`, and no fault of the sink came | the usage line |
-/// | 3 | exactly where the text is too long, has a fault, or can't be run yet, and no fault of the sink came | the refusal line |
+/// | 0 | the command was done | the report, the summary or the made workload |
+/// | 2 | exactly where the words are no command, and no fault of the sink came | the usage line |
+/// | 3 | exactly where the text is too long or has a fault, and no fault of the sink came | the refusal line |
 /// | 4 | only where the source's count of faults rose in this call | nothing |
-/// | 5 | only where the sink's count of faults rose in this call | a front part of the report, the usage line or the refusal line |
+/// | 5 | only where the sink's count of faults rose in this call | a front part of what was to be written |
 /// | 6 | memory was refused | nothing |
+/// | 7 | exactly where as many letters were taken as `rounds` has, and one is left | nothing |
 ///
-/// Words that are refused leave the source as it was and take no memory. For status 0 the source was read to
-/// its end. There are no picks yet: the schedule is empty.
-pub fn run<S: Source, K: Sink>(alloc: Global, words: &Words, source: &mut S, sink: &mut K) -> Ended
-    ensures ended { Ends words.now (record { before = S.left source.old; after = S.left source.new; faults = S.faults source.old; faults_after = S.faults source.new }) (record { before = K.held sink.old; after = K.held sink.new; faults = K.faults sink.old; faults_after = K.faults sink.new }) result.status }
-    ensures schedule { result.schedule ≡ [] }
+/// Each "exactly" yields to want of memory, those of 2 and 3 to a failed write, those of 3 and 7 to a failed read.
+///
+/// The rack has to be whole and its controllers cleared. In a run the next letter is always that to the least server, from its least
+/// sender, that waits; the schedule is the list of these picks. It is empty where no run was made, or memory was refused in it. `make` and
+/// words that are refused leave the source as it was. For status 0 of a run the source was read to its end.
+pub fn run<S: Source, K: Sink>(
+    alloc: Global,
+    words: &Words,
+    source: &mut S,
+    sink: &mut K,
+    rack: Rack,
+) -> Ended
+    requires whole { are_whole ⟦<dyn Controller as Controller>⟧ rack.slots.items ≡ true }
+    requires clear { AreClear ⟦<dyn Controller as Controller>⟧ rack.slots.items }
+    ensures ended { Ends words.now (record { before = S.left source.old; after = S.left source.new; faults = S.faults source.old; faults_after = S.faults source.new }) (record { before = K.held sink.old; after = K.held sink.new; faults = K.faults sink.old; faults_after = K.faults sink.new }) result.schedule result.status }
 {
-    Ended {
-        status: status_of(alloc, words, source, sink),
-        schedule: Schedule::new(alloc),
-    }
+    let answer = answer_words(alloc, words, source, rack);
+    say(sink, answer)
 }
 
-/// Does what the words ask for; answers the status.
-fn status_of<S: Source, K: Sink>(alloc: Global, words: &Words, source: &mut S, sink: &mut K) -> u8
-    ensures { Ends words.now (record { before = S.left source.old; after = S.left source.new; faults = S.faults source.old; faults_after = S.faults source.new }) (record { before = K.held sink.old; after = K.held sink.new; faults = K.faults sink.old; faults_after = K.faults sink.new }) result }
+/// Says what is to be said.
+fn say<K: Sink>(sink: &mut K, answer: Answer) -> Ended
+    ensures said { Said answer (record { before = K.held sink.old; after = K.held sink.new; faults = K.faults sink.old; faults_after = K.faults sink.new }) result.status }
+    ensures schedule { result.schedule ≡ answer.schedule }
 {
-    if is_run(words) {
-        run_text(alloc, source, sink)
-    } else {
-        say(sink, 2, USAGE)
-    }
-}
-
-/// Whether the words are the one word `run`.
-fn is_run(words: &Words) -> bool
-    ensures { result ≡ says_run words.now }
-{
-    words.len() == 1 && words.get(0) == b"run".as_slice()
-}
-
-/// Reads a workload, runs it and writes the report; answers the status.
-fn run_text<S: Source, K: Sink>(alloc: Global, source: &mut S, sink: &mut K) -> u8
-    ensures { Runs (record { before = S.left source.old; after = S.left source.new; faults = S.faults source.old; faults_after = S.faults source.new }) (record { before = K.held sink.old; after = K.held sink.new; faults = K.faults sink.old; faults_after = K.faults sink.new }) result }
-{
-    match answer_source(alloc, source) {
-        Ok(answer) => say(sink, answer.status, answer.text.as_slice()),
-        Err(ReadError::Failed) => 4,
-        Err(ReadError::NoMemory) => 6,
-    }
+    let Answer {
+        status,
+        text,
+        schedule,
+    } = answer;
+    let status = match text {
+        None => status,
+        Some(text) => write(sink, status, text.as_slice()),
+    };
+    Ended { status, schedule }
 }
 
 /// Writes a text, and answers the status that goes with it, or 5 where the sink failed.
-fn say<K: Sink>(sink: &mut K, status: u8, text: &[u8]) -> u8
-    ensures { Said status text.now (record { before = K.held sink.old; after = K.held sink.new; faults = K.faults sink.old; faults_after = K.faults sink.new }) result }
+fn write<K: Sink>(sink: &mut K, status: u8, text: &[u8]) -> u8
+    ensures { IsWritten status text.now (record { before = K.held sink.old; after = K.held sink.new; faults = K.faults sink.old; faults_after = K.faults sink.new }) result }
 {
     match write_all(sink, text) {
         Ok(()) => status,
-        Err(Failed) => 5,
+        Err(Failed) => UNWRITTEN,
     }
 }

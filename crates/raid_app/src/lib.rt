@@ -4,13 +4,9 @@
 pub mod answer;
 pub mod call;
 pub mod lines;
-pub mod machine;
-pub mod serial;
-pub mod told;
-pub mod words;
+pub mod running;
+pub mod statuses;
 
-pub use call::{Ended, Schedule, run};
-pub use words::Words;
-
-#[cfg(test)]
-mod tests;
+pub use answer::Schedule;
+pub use call::{Ended, run};
+pub use raid_command::Words;

@@ -8,13 +8,12 @@ use raid_tokens::Fault;
 use std::alloc::Global;
 
 /// How the program is called.
-pub const USAGE: &[u8] = b"usage: raid run\n";
+pub const USAGE_LINE: &[u8] = b"usage: raid run [--brief] | raid make --seed N --count N\n";
 
 /// What is said of a text of more bytes than there may be.
-pub const TOO_LONG: &[u8] = b"refused too long\n";
+pub const TOO_LONG_LINE: &[u8] = b"refused too long\n";
 
 /// The line that refuses a text: the line of its first fault, counted from 1, with the fault's number and word.
-/// Line 0 stands for a text that reads well and asks for what isn't built yet.
 pub fn fault_line(alloc: Global, line: u32, fault: Fault) -> Result<Bytes, NoMemory>
     ensures { IfOk result (λ text. text ≡ lines.fault_line line fault) }
 {

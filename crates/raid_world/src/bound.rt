@@ -1,4 +1,4 @@
-//! How many picks are more than any run has.
+//! How many picks are more than any run should have.
 ghost use Rattle.std.specs.Prelude.{◌≡◌, ◌≤◌, ◌+◌, ◌*◌, length};
 ghost use Rattle.raid_steps.specs.World as steps;
 
@@ -39,7 +39,7 @@ fn renewals(workload: &Workload) -> u64
     copies * workload.events.len() as u64
 }
 
-/// A number of picks that no run of the workload comes to. Takes no memory.
+/// A number of picks that no run of the workload should come to. Takes no memory.
 pub fn rounds(workload: &Workload) -> u64
     ensures { result ≡ steps.rounds workload.now }
 {
