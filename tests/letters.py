@@ -1,4 +1,4 @@
-"""Letters of the reference model as lines, for the program raid_site_table.
+"""Letters of the reference model as lines, for the programs raid_site_table and raid_sequencer_table.
 
 Each line is one word or number after another, with single spaces. Transactions, sites, switches and sessions are
 counted from 1, items from 0; a number that the workload doesn't know is written as it is. Pairs are ITEM=VALUE joined
@@ -65,6 +65,29 @@ def heard_line(sender, letter):
 def sent_line(out):
     receiver, to, message = out
     return f"< {receiver} {to} {message_words(message)}"
+
+
+def some_writes(rng, items):
+    return tuple((x, rng.randint(-9, 99)) for x in rng.sample(items, rng.randint(0, len(items))))
+
+
+def any_message(w, rng):
+    """A message with whatever is near what the workload knows."""
+    t, s = rng.randint(0, w.count + 1), rng.randint(0, w.sites + 1)
+    x, n = rng.randint(0, len(w.items)), rng.randint(0, 3)
+    value, number = rng.randint(-9, 99), rng.randint(0, 9)
+    ask = rng.randint(1, 3)  # never 0, by which the model says that a program awaits no value
+    writes = some_writes(rng, list(range(len(w.items) + 1)))
+    vector = tuple(rng.randint(0, 2) for _ in range(w.sites + rng.choice((-1, 0, 0, 0, 1))))
+    request = world.Request(some_writes(rng, list(range(len(w.items)))), writes, vector)
+    return rng.choice((
+        world.Welcome(vector, rng.randint(0, w.count + 1)), world.ReadDo(t, ask, x, s, n), world.Serving(t, ask, s),
+        world.Apply(t, number), world.Done(t), world.Drop(t, rng.random() < 0.5), world.DownNote(s), world.UpNote(s, n),
+        world.CopyDo(x, s, n), world.Hello(), world.BeginAsk(t), world.ReadAskLetter(t, n, x), world.CommitAskLetter(t, request),
+        world.EndAsk(t, rng.choice(("own", "overflow")), writes), world.AckLetter(t), world.CopyDone(x, number),
+        world.ValueLetter(t, ask, value), world.Prepare(t, writes), world.Vote(t, rng.choice((None, (n, 1)))),
+        world.CopyValue(x, value, number), world.Stop(), world.Return(), world.Halted(), world.DownLetter(max(s, 1), n),
+        world.Ends(number)))
 
 
 def step_lines(hear, sender, letter):

@@ -1,5 +1,6 @@
 #!/bin/sh
-# Lets sites hear random letters, and compares what they send with the reference model: see make_letters.py.
+# Lets sites and sequencers hear random letters, and compares what they do with the reference model: see make_letters.py and
+# make_sequencer_letters.py.
 # RAID_ORACLE names the folder of the model, RAID_LETTERS how many sequences there are to be (5000), RAID_SEED which (1).
 cd "$(dirname "$0")/.." || exit 1
 . tests/model.inc
@@ -15,7 +16,7 @@ hear() {
     grep -q ' 0 heard otherwise$' "$scratch/said"
 }
 
-if hear raid_site_table make_letters.py; then
+if hear raid_site_table make_letters.py && hear raid_sequencer_table make_sequencer_letters.py; then
     exit 0
 fi
 echo "letters: FAILED: a program and the model differ"

@@ -14,17 +14,13 @@ wrong sender, to another session, of an unknown transaction, item or site; and s
   copies C..     ends the sequence: VALUE@VERSION of each copy of the site, by item
 """
 from drawing import write_cases
-from letters import step_lines, world
+from letters import any_message, some_writes, step_lines, world
 import fuzz
 import raid_text
 from raid_world import (Apply, CopyDo, CopyValue, Done, DownNote, Drop, Letter, MONITOR, Prepare, ReadDo, Return, SEQUENCER,
                         Serving, Stop, UpNote, ValueLetter, Vote, Welcome, server_of)
 
 SEQUENCES_OF_A_WORKLOAD = 10
-
-
-def some_writes(rng, items):
-    return tuple((x, rng.randint(-9, 99)) for x in rng.sample(items, rng.randint(0, len(items))))
 
 
 class Around:
@@ -113,30 +109,12 @@ class Around:
             found += [(3 * weight, letter) for weight, letter in self.answers(t, run)]
         return self.rng.choices([letter for _, letter in found], [weight for weight, _ in found])[0]
 
-    def any_message(self):
-        """A message with whatever is near what the workload knows."""
-        rng, w = self.rng, self.w
-        t, s = rng.randint(0, w.count + 1), rng.randint(0, w.sites + 1)
-        x, n = rng.randint(0, len(w.items)), rng.randint(0, 3)
-        value, number = rng.randint(-9, 99), rng.randint(0, 9)
-        ask = rng.randint(1, 3)  # never 0, by which the model says that a program awaits no value
-        writes = some_writes(rng, list(range(len(w.items) + 1)))
-        vector = tuple(rng.randint(0, 2) for _ in range(w.sites + rng.choice((-1, 0, 0, 0, 1))))
-        request = world.Request(some_writes(rng, list(range(len(w.items)))), writes, vector)
-        return rng.choice((
-            Welcome(vector, rng.randint(0, w.count + 1)), ReadDo(t, ask, x, s, n), Serving(t, ask, s), Apply(t, number), Done(t),
-            Drop(t, rng.random() < 0.5), DownNote(s), UpNote(s, n), CopyDo(x, s, n), world.Hello(), world.BeginAsk(t),
-            world.ReadAskLetter(t, n, x), world.CommitAskLetter(t, request), world.EndAsk(t, rng.choice(("own", "overflow")), writes),
-            world.AckLetter(t), world.CopyDone(x, number), ValueLetter(t, ask, value), Prepare(t, writes),
-            Vote(t, rng.choice((None, (n, 1)))), CopyValue(x, value, number), Stop(), Return(), world.Halted(),
-            world.DownLetter(max(s, 1), n), world.Ends(number)))
-
     def any(self):
         """Any letter of a server of the world, mostly to the site's session."""
         rng, own = self.rng, self.server.session
         sender = rng.choice([MONITOR, SEQUENCER, SEQUENCER, SEQUENCER, *map(server_of, self.others)])
         to = own if rng.random() < 0.7 else rng.choice((0, own - 1, own + 1))
-        return sender, Letter(0, rng.randint(0, 2), to, self.any_message())
+        return sender, Letter(0, rng.randint(0, 2), to, any_message(self.w, rng))
 
     def next(self):
         kind = self.rng.random()
