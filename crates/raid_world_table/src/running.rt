@@ -75,7 +75,8 @@ fn run(alloc: Global, workload: &Workload, rack: Rack, picks: &[Pick]) -> Result
     requires clear { AreClear ⟦<dyn Controller as Controller>⟧ rack.slots.items }
 {
     let mut world = World::new(alloc, workload, PLACES, rack)?;
-    if let Some(k) = take_all(alloc, workload, &mut world, picks)? {
+    let missed = take_all(alloc, workload, &mut world, picks)?;
+    if let Some(k) = missed {
         return Ok(End::NoLetter(k));
     }
     let is_left = world.first().is_some();
