@@ -1,0 +1,83 @@
+//! Texts that are refused.
+
+use crate::texts::{NOTHING, NOTHING_DONE};
+use crate::told::{Outcome, Way, told};
+use raid_base::NoMemory;
+use std::alloc::Global;
+use std::test::Fail;
+
+/// The most bytes that a text may have.
+const MOST: usize = 4_194_304;
+
+/// Texts, and what is said of each.
+const REFUSED: [(&str, &str); 7] = [
+    ("", "refused line 1 fault 14 end\n"),
+    (
+        "workload 1\nsites 0 together 1\n",
+        "refused line 2 fault 3 range\n",
+    ),
+    (
+        "workload 1\nsites 1 together 1\nitem a 1 at\n",
+        "refused line 3 fault 7 nocopy\n",
+    ),
+    (
+        "workload 1\nsites 1 together 1\nitem a 1 at 1 1\n",
+        "refused line 3 fault 6 twice\n",
+    ),
+    (
+        "workload 1\nsites 1 together 1\nitem a 1 at 1\nitem b 1 at 1\nopen lock native\nprogram 1\nread a r0\nend\nswitch valid by generic after 1\ndone\n",
+        "refused line 9 fault 10 generic\n",
+    ),
+    (
+        "workload 1\nsites 1 together 1\nitem a 1 at 1\nitem b 1 at 1\nopen lock native\nprogram 1\nread c r0\nend\nswitch valid by generic after 1\ndone\n",
+        "refused line 7 fault 5 item\n",
+    ),
+    (
+        "workload 1\nsites 1 together 1\nitem a 1 at 1\nitem b 1 at 1\nopen lock native\nprogram 1\nread a r0\n",
+        "refused line 8 fault 14 end\n",
+    ),
+];
+
+/// Runs a text behind a comment, which makes it `length` bytes long.
+fn told_behind_a_comment(alloc: Global, text: &str, length: usize) -> Result<Outcome, NoMemory> {
+    let mut bytes = vec![in alloc; b'#'; length.saturating_sub(text.len() + 1)]?;
+    bytes.push(b'\n')?;
+    bytes.extend_from_slice(text.as_bytes())?;
+    told(alloc, "run", bytes.as_slice(), Way::Whole, Way::Whole)
+}
+
+#[test]
+fn the_first_fault_is_named(rt: HostRuntime) -> Result<(), Fail> {
+    for (text, line) in REFUSED {
+        let told = told(rt.alloc(), "run", text.as_bytes(), Way::Whole, Way::Whole)?;
+        assert_eq!(rt; told.status, 3, "{line}");
+        assert_eq!(rt; told.written(), line.as_bytes());
+        assert!(rt; told.picks.is_empty(), "{line}");
+    }
+    Ok(())
+}
+
+#[test]
+fn a_text_of_the_most_bytes_is_run(rt: HostRuntime) -> Result<(), Fail> {
+    let told = told_behind_a_comment(rt.alloc(), NOTHING, MOST)?;
+    assert_eq!(rt; told.status, 0);
+    assert_eq!(rt; told.written(), NOTHING_DONE.as_bytes());
+    Ok(())
+}
+
+#[test]
+fn a_text_of_one_byte_more_is_too_long(rt: HostRuntime) -> Result<(), Fail> {
+    let told = told_behind_a_comment(rt.alloc(), NOTHING, MOST + 1)?;
+    assert_eq!(rt; told.status, 3);
+    assert_eq!(rt; told.written(), b"refused too long\n".as_slice());
+    Ok(())
+}
+
+#[test]
+fn no_more_is_read_than_shows_that_a_text_is_too_long(rt: HostRuntime) -> Result<(), Fail> {
+    let told = told_behind_a_comment(rt.alloc(), NOTHING, MOST + 4)?;
+    assert_eq!(rt; told.status, 3);
+    assert_eq!(rt; told.written(), b"refused too long\n".as_slice());
+    assert_eq!(rt; told.left(), b"ne\n".as_slice());
+    Ok(())
+}
