@@ -12,7 +12,9 @@ What is written first, which --drawn leaves out, is
     worked out by hand, and the model has to agree;
   - every step of a site that stops and returns: a set of schedules of the second worked run's workload, which together go
     through all states that any schedule can come to (clocks and journals left out) and take every step that there is
-    from each of them, with the model's report of each.
+    from each of them, with the model's report of each;
+  - a late stop: the same workload in the order that the program takes, but the site's stop and its return are left out until so many
+    letters were taken, 0 to 100 of them, or until no other link holds one.
 
 Then come N random workloads (100), two random schedules of each, and the model's reports.
 
@@ -50,6 +52,10 @@ MISSED = ("report 1", "1 begin t1 at s1", "2 commit t1 reads - writes x=1 under 
           "5 begin t2 at s1", "6 read t2 x at s1", "7 commit t2 reads x=1 writes - under 1,- applied -", "8 up s2 session 2")
 RENEWED = (*MISSED, "9 clear s2 x at 2", "order t1 t2", "final x 1", "copy s1 x 1 2", "copy s2 x 1 2", "done")
 NOT_RENEWED = (*MISSED, "order t1 t2", "final x 1", "copy s1 x 1 2", "copy s2 x 0 0", "done")
+
+
+# The link by which the site that stops hears the monitor: its server and the monitor's.
+LATE = (3, 0)
 
 
 def schedule_line(schedule, word="picks"):
@@ -151,6 +157,32 @@ def covering_lines():
     yield f"count all {sum(map(len, steps.values()))} steps from {len(steps)} states"
 
 
+def late_schedule(w, until):
+    """The least server's letter from its least sender is the next; but the stop and the return come late."""
+    world, schedule = World(w), []
+    while choices := world.choices():
+        others = [pick for pick in choices if pick != LATE]
+        schedule.append(min(others if others and len(schedule) < until else choices))
+        world.pick(schedule[-1])
+    report = world.report()
+    assert finding(w, report) == "sound"
+    return schedule, print_report(w, report)
+
+
+def late_lines():
+    """A stop that comes after 0 to 100 letters, by the report that it leads to."""
+    w = parse(test_rows.text(*STOPS))
+    schedules = collections.defaultdict(list)
+    for until in range(101):
+        schedule, report = late_schedule(w, until)
+        schedules[report].append(schedule)
+    yield from STOPS
+    for report, found in schedules.items():
+        yield from text_lines(report)
+        yield from map(schedule_line, found)
+    yield "count a stop after 0 to 100 letters"
+
+
 def small_workload(rng, k):
     """A workload of any form that has a short text."""
     while True:
@@ -193,7 +225,7 @@ def main():
     parser.add_argument("--seed", type=int, default=1)
     parser.add_argument("--drawn", action="store_true")
     args = parser.parse_args()
-    lines = [] if args.drawn else [*worked_lines(), *covering_lines()]
+    lines = [] if args.drawn else [*worked_lines(), *covering_lines(), *late_lines()]
     print("\n".join([*lines, *drawn_lines(args.workloads, args.seed)]))
 
 

@@ -124,8 +124,10 @@ fn hear_all(
     Ok(())
 }
 
-/// What the validation of the rack says to a commit of the second transaction, which wants to write nothing.
-fn ask(alloc: Global, rack: &mut Rack) -> Option<Verdict> {
+/// What the validation of a cleared rack says to a commit of the second transaction, which wants to write nothing.
+fn ask(alloc: Global, rack: &mut Rack) -> Option<Verdict>
+    requires { AreClear ⟦<dyn Controller as Controller>⟧ rack.old.slots.items }
+{
     let mut slot = rack.take(Kind::Valid, Structure::Native)?;
     let nothing = Pairs::new(alloc);
     let said = slot.control.judge(&Ask::Commit {

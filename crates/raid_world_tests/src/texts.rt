@@ -1,26 +1,24 @@
 //! Workload texts, some of them too long to be written out.
 
-use raid_base::{NoMemory, Report};
+use raid_base::NoMemory;
 use raid_workload::Workload;
+use raid_world::rounds;
 use std::alloc::Global;
 
 /// The most bytes that a text may have.
 const MOST: usize = 1_000_000;
 
 /// The workload of the text. Where it is none, memory is said to be refused.
-pub fn workload(alloc: Global, text: &str) -> Result<Workload, NoMemory> {
+fn workload(alloc: Global, text: &str) -> Result<Workload, NoMemory> {
     if text.len() > MOST {
         return Err(NoMemory);
     }
     raid_text::parse(alloc, text.as_bytes()).map_err(|_| NoMemory)
 }
 
-/// The report of the text. Where it is none, memory is said to be refused.
-pub fn report(alloc: Global, workload: &Workload, text: &str) -> Result<Report, NoMemory> {
-    if text.len() > MOST {
-        return Err(NoMemory);
-    }
-    raid_report::parse(alloc, workload, text.as_bytes()).map_err(|_| NoMemory)
+/// The bound on the picks of a run, for the workload of the text.
+pub fn rounds_of(alloc: Global, text: &str) -> Result<u64, NoMemory> {
+    Ok(rounds(&workload(alloc, text)?))
 }
 
 /// 200 programs at three sites move money between 40 items; two switches, a stop and a return.

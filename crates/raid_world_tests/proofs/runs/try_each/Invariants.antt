@@ -1,6 +1,0 @@
-use Rattle.raid_world.specs.Stands.{Runs}
-use Rattle.raid_world_tests.proofs.runs.try_each.Given as goal
-
--- the world may be picked from again
-abbrev pub invariant-loop-pick : goal.invariant-loop-pick
-invariant-loop-pick g l = Runs (λ v. (g.dyn-1.0.entry v).1) l.workload l.world
