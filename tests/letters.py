@@ -19,6 +19,7 @@ The messages are
   ends COUNT
 """
 import model  # noqa: F401
+import raid_text
 import raid_world as world
 
 # The word of each message that says all its fields in their order.
@@ -97,3 +98,17 @@ def step_lines(hear, sender, letter):
     except world.Misfit:
         outs = []
     return [heard_line(sender, letter), *map(sent_line, outs)]
+
+
+class Sequences:
+    """Draws sequences of letters, now and then after a new workload, of which they are from then on."""
+
+    def __init__(self, some_workload, sequence_lines, sequences_of_a_workload):
+        self.some_workload, self.sequence_lines, self.every, self.w = some_workload, sequence_lines, sequences_of_a_workload, None
+
+    def lines(self, k, rng):
+        said = []
+        if k % self.every == 1:
+            self.w = self.some_workload(rng)
+            said = raid_text.print_workload(self.w).decode().splitlines()
+        return said + self.sequence_lines(k, self.w, rng)

@@ -14,7 +14,7 @@ wrong sender, to another session, of an unknown transaction, item or site; and s
   copies C..     ends the sequence: VALUE@VERSION of each copy of the site, by item
 """
 from drawing import write_cases
-from letters import any_message, some_writes, step_lines, world
+from letters import Sequences, any_message, some_writes, step_lines, world
 import fuzz
 import raid_text
 from raid_world import (Apply, CopyDo, CopyValue, Done, DownNote, Drop, Letter, MONITOR, Prepare, ReadDo, Return, SEQUENCER,
@@ -127,7 +127,7 @@ class Around:
         return sender, letter
 
 
-def sequence_lines(w, rng):
+def sequence_lines(_number, w, rng):
     around = Around(w, rng.randint(1, w.sites), rng)
     lines = [f"site {around.server.site}"]
     for _ in range(rng.randint(4, 13)):
@@ -144,19 +144,5 @@ def small_workload(rng):
             return w
 
 
-class Sequences:
-    """Draws sequences, now and then after a new workload, to whose sites they go from then on."""
-
-    def __init__(self):
-        self.w = None
-
-    def lines(self, k, rng):
-        said = []
-        if k % SEQUENCES_OF_A_WORKLOAD == 1:
-            self.w = small_workload(rng)
-            said = raid_text.print_workload(self.w).decode().splitlines()
-        return said + sequence_lines(self.w, rng)
-
-
 if __name__ == "__main__":
-    write_cases(__doc__, "sequences", 600, Sequences().lines)
+    write_cases(__doc__, "sequences", 600, Sequences(small_workload, sequence_lines, SEQUENCES_OF_A_WORKLOAD).lines)

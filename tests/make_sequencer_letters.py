@@ -18,9 +18,8 @@ sender, of an unknown transaction, item or site; and some others are of another 
 from dataclasses import replace
 
 from drawing import write_cases
-from letters import any_message, some_writes, step_lines, world
+from letters import Sequences, any_message, some_writes, step_lines, world
 import fuzz
-import raid_text
 from raid_report import print_entry, txn_word
 from raid_rules import order
 from raid_types import Homed
@@ -143,19 +142,5 @@ def small_workload(rng):
     return replace(w, programs=tuple(Homed(homed.home, ()) for homed in w.programs))
 
 
-class Sequences:
-    """Draws sequences, now and then after a new workload, of which they are from then on."""
-
-    def __init__(self):
-        self.w = None
-
-    def lines(self, k, rng):
-        said = []
-        if k % SEQUENCES_OF_A_WORKLOAD == 1:
-            self.w = small_workload(rng)
-            said = raid_text.print_workload(self.w).decode().splitlines()
-        return said + sequence_lines(k, self.w, rng)
-
-
 if __name__ == "__main__":
-    write_cases(__doc__, "sequences", 400, Sequences().lines)
+    write_cases(__doc__, "sequences", 400, Sequences(small_workload, sequence_lines, SEQUENCES_OF_A_WORKLOAD).lines)
