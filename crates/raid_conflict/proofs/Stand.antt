@@ -1,5 +1,5 @@
 -- The tables stand for the list with one more entry.
-use Rattle.std.proofs.Common.{◌≡◌, ℕ, Bool, true, false, ◌||◌, if◌then◌else◌, List, [], ◌∷◌, ◌++◌, map, arith, refl, sym, ap, subst, ◌∙◌, append-nil, cond}
+use Rattle.std.proofs.Common.{◌≡◌, ℕ, Bool, true, false, ◌&&◌, ◌||◌, if◌then◌else◌, List, [], ◌∷◌, ◌++◌, map, arith, refl, sym, ap, subst, ◌∙◌, append-nil, cond}
 use Rattle.std.specs.Prelude.{Result, Ok, Err, OnOk, option_to_list, ⊤}
 use Rattle.std.specs.List.{filter}
 use Rattle.std.proofs.lemmas.Grind.{common_steps}
@@ -28,17 +28,15 @@ use Rattle.raid_rules.proofs.Acts.{writes_kept, writes_left}
 use Rattle.raid_conflict.specs.declared.tables.Tables.{Tables}
 use Rattle.raid_conflict.specs.declared.tables.Mark.{Mark}
 use Rattle.raid_conflict.specs.Listed.{noted_as}
-use Rattle.raid_conflict.specs.Tables.{chain_at, mark, writes_of, all_actions, Tells, Acted, Marked}
+use Rattle.raid_conflict.specs.Tables.{mark, writes_of, all_actions, Tells, Acted, Marked}
 
 -- the actions of a list with one more entry
 pub all_push : (view : List Noted) (n : Noted) → all_actions (view ++ n ∷ []) ≡ all_actions view ++ acts n n.entry
 all_push view n = flat_map-append (λ m. acts m m.entry) view (n ∷ []) ∙ ap (λ l. all_actions view ++ l) (append-nil (acts n n.entry))
 
-pub on_push : (view : List Noted) (n : Noted) (x : Item) → filter (λ a. is_item x a.item) (all_actions (view ++ n ∷ [])) ≡ filter (λ a. is_item x a.item) (all_actions view) ++ filter (λ a. is_item x a.item) (acts n n.entry)
-on_push view n x = ap (filter (λ a. is_item x a.item)) (all_push view n) ∙ filter-append (λ a. is_item x a.item) (all_actions view) (acts n n.entry)
-
-pub own_push : (view : List Noted) (n : Noted) (u : Txn) → filter (λ a. is_txn u a.by) (all_actions (view ++ n ∷ [])) ≡ filter (λ a. is_txn u a.by) (all_actions view) ++ filter (λ a. is_txn u a.by) (acts n n.entry)
-own_push view n u = ap (filter (λ a. is_txn u a.by)) (all_push view n) ∙ filter-append (λ a. is_txn u a.by) (all_actions view) (acts n n.entry)
+-- those of them that pass a test
+those_push : (p : Action → Bool) (view : List Noted) (n : Noted) → filter p (all_actions (view ++ n ∷ [])) ≡ filter p (all_actions view) ++ filter p (acts n n.entry)
+those_push p view n = ap (filter p) (all_push view n) ∙ filter-append p (all_actions view) (acts n n.entry)
 
 pub aborted_push : (view : List Noted) (n : Noted) (u : Txn) → has_aborted (view ++ n ∷ []) u ≡ (has_aborted view u || is_abort_of u n.entry)
 aborted_push view n u = grind (arith, common_steps)
@@ -48,11 +46,8 @@ pub record Idle (e : Entry) : Type 0 where
   pub acts-not : (n : Noted) → acts n e ≡ []
   pub commits-not : commit_of e ≡ None
 
-on_idle : (t : Tables) (view : List Noted) (n : Noted) → Idle n.entry → Tells t view → (x : Item) → chain_at t.items.items x.0 ≡ filter (λ a. is_item x a.item) (all_actions (view ++ n ∷ []))
-on_idle t view n i s x = s.on x ∙ sym (on_push view n x ∙ ap (λ l. filter (λ a. is_item x a.item) (all_actions view) ++ filter (λ a. is_item x a.item) l) (i.acts-not n) ∙ append-nil (filter (λ a. is_item x a.item) (all_actions view)))
-
-own_idle : (t : Tables) (view : List Noted) (n : Noted) → Idle n.entry → Tells t view → (u : Txn) → chain_at t.own.items u.0 ≡ filter (λ a. is_txn u a.by) (all_actions (view ++ n ∷ []))
-own_idle t view n i s u = s.own u ∙ sym (own_push view n u ∙ ap (λ l. filter (λ a. is_txn u a.by) (all_actions view) ++ filter (λ a. is_txn u a.by) l) (i.acts-not n) ∙ append-nil (filter (λ a. is_txn u a.by) (all_actions view)))
+those_idle : (p : Action → Bool) (view : List Noted) (n : Noted) → Idle n.entry → filter p (all_actions view) ≡ filter p (all_actions (view ++ n ∷ []))
+those_idle p view n i = sym (those_push p view n ∙ ap (λ l. filter p (all_actions view) ++ filter p l) (i.acts-not n) ∙ append-nil (filter p (all_actions view)))
 
 committed_idle : (view : List Noted) (n : Noted) → Idle n.entry → committed (view ++ n ∷ []) ≡ committed view
 committed_idle view n i = committed_push view n ∙ ap (λ o. committed view ++ map (λ c. c.0) (option_to_list o)) i.commits-not ∙ append-nil (committed view)
@@ -60,8 +55,9 @@ committed_idle view n i = committed_push view n ∙ ap (λ o. committed view ++ 
 -- an entry that changes nothing
 stands_idle : (t : Tables) (view : List Noted) (n : Noted) → Idle n.entry → ((u : Txn) → is_begin_of u n.entry ≡ false) → ((u : Txn) → is_abort_of u n.entry ≡ false) → Tells t view → Tells t (view ++ n ∷ [])
 stands_idle t view n i begins aborts s = record {
-  on = on_idle t view n i s;
-  own = own_idle t view n i s;
+  on = λ x. s.on x ∙ those_idle (λ a. is_item x a.item) view n i;
+  writes = λ x. s.writes x ∙ those_idle (λ a. a.writes && is_item x a.item) view n i;
+  own = λ u. s.own u ∙ those_idle (λ a. is_txn u a.by) view n i;
   stamps = λ u. s.stamps u ∙ grind (arith, common_steps, number_of_push (is_begin_of u) view n, begins u);
   aborted = λ u. s.aborted u ∙ grind (arith, common_steps, aborted_push view n u, aborts u);
   committed = s.committed ∙ sym (committed_idle view n i);
@@ -72,8 +68,9 @@ stands_marked : (t r : Tables) (view : List Noted) (n : Noted) (of : Txn) (with 
     ((u : Txn) → (if is_txn u of then with else mark t u).stamp ≡ stamp (view ++ n ∷ []) u) →
     ((u : Txn) → (if is_txn u of then with else mark t u).aborted ≡ has_aborted (view ++ n ∷ []) u) → Tells t view → Tells r (view ++ n ∷ [])
 stands_marked t r view n of with i m stamps aborted s = record {
-  on = λ x. m.on x ∙ on_idle t view n i s x;
-  own = λ u. m.own u ∙ own_idle t view n i s u;
+  on = λ x. m.on x ∙ s.on x ∙ those_idle (λ a. is_item x a.item) view n i;
+  writes = λ x. m.writes x ∙ s.writes x ∙ those_idle (λ a. a.writes && is_item x a.item) view n i;
+  own = λ u. m.own u ∙ s.own u ∙ those_idle (λ a. is_txn u a.by) view n i;
   stamps = λ u. ap (λ (k : Mark). k.stamp) (m.marks u) ∙ stamps u;
   aborted = λ u. ap (λ (k : Mark). k.aborted) (m.marks u) ∙ aborted u;
   committed = m.committed ∙ s.committed ∙ sym (committed_idle view n i);
@@ -85,13 +82,17 @@ stands_acted : (t r : Tables) (view : List Noted) (n : Noted) (by : Txn) →
     ((u : Txn) → is_begin_of u n.entry ≡ false) → ((u : Txn) → is_abort_of u n.entry ≡ false) →
     Acted t r by (acts n n.entry) → r.committed.items ≡ committed (view ++ n ∷ []) → Tells t view → Tells r (view ++ n ∷ [])
 stands_acted t r view n by mine begins aborts a committed s = record {
-  on = λ x. a.on x ∙ ap (λ l. l ++ filter (λ b. is_item x b.item) (acts n n.entry)) (s.on x) ∙ sym (on_push view n x);
-  own = λ u. a.own u ∙ owned _ _ _ _ _ (is_txn u by) (mine u) (s.own u) (own_push view n u);
+  on = λ x. a.on x ∙ more (λ b. is_item x b.item) _ (s.on x);
+  writes = λ x. a.writes x ∙ more (λ b. b.writes && is_item x b.item) _ (s.writes x);
+  own = λ u. a.own u ∙ owned _ _ _ _ _ (is_txn u by) (mine u) (s.own u) (those_push (λ a. is_txn u a.by) view n);
   stamps = λ u. ap (λ (k : Mark). k.stamp) (a.marks u) ∙ s.stamps u ∙ grind (arith, common_steps, number_of_push (is_begin_of u) view n, begins u);
   aborted = λ u. ap (λ (k : Mark). k.aborted) (a.marks u) ∙ s.aborted u ∙ grind (arith, common_steps, aborted_push view n u, aborts u);
   committed = committed;
 }
   where
+    more : (p : Action → Bool) (had : List Action) → had ≡ filter p (all_actions view) → had ++ filter p (acts n n.entry) ≡ filter p (all_actions (view ++ n ∷ []))
+    more p had h = ap (λ l. l ++ filter p (acts n n.entry)) h ∙ sym (those_push p view n)
+
     owned : (had was more new after : List Action) (b : Bool) → new ≡ (if b then more else []) → had ≡ was → after ≡ was ++ new → (if b then had ++ more else had) ≡ after
     owned had was more new after true e h p = ap (λ l. l ++ more) h ∙ ap (λ l. was ++ l) (sym e) ∙ sym p
     owned had was more new after false e h p = h ∙ sym (append-nil was) ∙ ap (λ l. was ++ l) (sym e) ∙ sym p

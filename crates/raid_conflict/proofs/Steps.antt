@@ -1,6 +1,6 @@
 -- The steps of a search are the edges of the list.
-use Rattle.std.proofs.Common.{◌≡◌, ◌↔◌, ℕ, zero, suc, ◌<◌, nat_lt, Bool, true, false, not, ◌&&◌, List, [], ◌∷◌, length, arith, sym, ◌∙◌, ap, subst, refl}
-use Rattle.std.specs.List.{list_any, AllPairs}
+use Rattle.std.proofs.Common.{◌≡◌, ◌↔◌, ℕ, zero, suc, ◌<◌, nat_lt, Bool, true, false, not, ◌&&◌, ◌||◌, if◌then◌else◌, List, [], ◌∷◌, length, arith, sym, ◌∙◌, ap, subst, refl}
+use Rattle.std.specs.List.{list_any, filter, AllPairs}
 use Rattle.std.proofs.lemmas.Bool.{true≢false, and_parts, and_from}
 use Rattle.std.proofs.lemmas.Grind.{common_steps}
 use Rattle.raid_base.specs.declared.names.Txn.{Txn}
@@ -14,10 +14,10 @@ use Rattle.raid_rules.proofs.Reach.{IsPair, any_mono, leads_path, path_leads}
 use Rattle.raid_rules.proofs.Edges.{path_map}
 use Rattle.raid_conflict.specs.declared.chains.Chain.{Chain}
 use Rattle.raid_conflict.specs.declared.tables.Tables.{Tables}
-use Rattle.raid_conflict.specs.Tables.{chain_at, all_actions, Tells}
+use Rattle.raid_conflict.specs.Tables.{chain_at, chains_against, all_actions, Tells}
 use Rattle.raid_conflict.specs.Search.{latest, is_against, is_after, leads_on, is_step, Step}
 use Rattle.raid_conflict.proofs.Lists.{any_filter, any_congr, any_pair, from_any}
-use Rattle.raid_conflict.proofs.Latest.{Orderly, filter_orderly, view_orderly, latest_enough}
+use Rattle.raid_conflict.proofs.Latest.{filter_orderly, view_orderly, latest_enough}
 
 -- a chain with something in it has a place
 chain_placed : (chains : List Chain) (k : ℕ) (f : Action → Bool) → list_any f (chain_at chains k) ≡ true → k < length chains
@@ -69,21 +69,36 @@ module _ (t : Tables) (view : List Noted) (s : Tells t view) where
       let m : b.by.0 < length t.own.items = subst (λ (z : Txn). z.0 < length t.own.items) (sym (same_txn b.by v e)) l in
       grind (arith, m)
 
+  -- the actions that an action can conflict with on its item
+  abbrev meets : Action → Action → Bool
+  meets a b = (a.writes || b.writes) && is_item a.item b.item
+
+  -- the chain in which it is followed has just those
+  chain_meets : (a : Action) → chain_at (chains_against t a) a.item.0 ≡ filter (meets a) (all_actions view)
+  chain_meets a = go a.writes
+    where
+      go : (b : Bool) → chain_at (if b then t.items.items else t.writes.items) a.item.0 ≡ filter (λ c. (b || c.writes) && is_item a.item c.item) (all_actions view)
+      go true = s.on a.item
+      go false = s.writes a.item
+
   module _ (up : AllPairs (λ m n. m.at < n.at) view) where
+    -- whom an action leads to, over all actions
+    after_all : (a : Action) (v : Txn) → is_after t a (latest a.at (chain_at (chains_against t a) a.item.0)) v ≡ list_any (λ b. is_item a.item b.item && (is_against t a b && is_txn v b.by)) (all_actions view)
+    after_all a v =
+        ap (λ l. is_after t a (latest a.at l) v) (chain_meets a)
+        ∙ latest_enough a.at (λ b. is_against t a b && is_txn v b.by) (λ b h. grind (arith, common_steps, h)) (filter (meets a) (all_actions view)) (filter_orderly a.at (meets a) (all_actions view) (view_orderly a.at view up))
+        ∙ any_filter (λ b. is_against t a b && is_txn v b.by) (meets a) (all_actions view)
+        ∙ any_congr (λ b. meets a b && (is_against t a b && is_txn v b.by)) (λ b. is_item a.item b.item && (is_against t a b && is_txn v b.by)) (λ b. grind (arith, common_steps)) (all_actions view)
+
     -- a step, over all actions
     step_all : (u v : Txn) → is_step t u v ≡ (not (has_aborted view u) && list_any (λ a. is_txn u a.by && list_any (λ b. is_item a.item b.item && (is_against t a b && is_txn v b.by)) (all_actions view)) (all_actions view))
     step_all u v =
         ap (λ b. not b && leads_on t (chain_at t.own.items u.0) v) (s.aborted u)
         ∙ ap (λ l. not (has_aborted view u) && leads_on t l v) (s.own u)
         ∙ ap (λ b. not (has_aborted view u) && b)
-        (any_filter (λ a. is_after t a (latest a.at (chain_at t.items.items a.item.0)) v) (λ a. is_txn u a.by) (all_actions view)
-        ∙ any_congr (λ a. is_txn u a.by && is_after t a (latest a.at (chain_at t.items.items a.item.0)) v) (λ a. is_txn u a.by && list_any (λ b. is_item a.item b.item && (is_against t a b && is_txn v b.by)) (all_actions view))
-        (λ a. ap (λ b. is_txn u a.by && b) (late_after a ∙ ap (λ l. is_after t a l v) (s.on a.item) ∙ any_filter (λ b. is_against t a b && is_txn v b.by) (λ b. is_item a.item b.item) (all_actions view))) (all_actions view))
-      where
-        late_after : (a : Action) → is_after t a (latest a.at (chain_at t.items.items a.item.0)) v ≡ is_after t a (chain_at t.items.items a.item.0) v
-        late_after a =
-            latest_enough a.at (λ b. is_against t a b && is_txn v b.by) (λ b h. grind (arith, common_steps, h)) (chain_at t.items.items a.item.0)
-            (subst (Orderly a.at) (sym (s.on a.item)) (filter_orderly a.at (λ b. is_item a.item b.item) (all_actions view) (view_orderly a.at view up)))
+        (any_filter (λ a. is_after t a (latest a.at (chain_at (chains_against t a) a.item.0)) v) (λ a. is_txn u a.by) (all_actions view)
+        ∙ any_congr (λ a. is_txn u a.by && is_after t a (latest a.at (chain_at (chains_against t a) a.item.0)) v) (λ a. is_txn u a.by && list_any (λ b. is_item a.item b.item && (is_against t a b && is_txn v b.by)) (all_actions view))
+        (λ a. ap (λ b. is_txn u a.by && b) (after_all a v)) (all_actions view))
 
     pub step_pair : (u v : Txn) → Step t u v → IsPair (edges view) u v
     step_pair u v e =

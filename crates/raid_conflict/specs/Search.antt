@@ -8,7 +8,7 @@ use Rattle.raid_rules.specs.declared.conflict.Action.{Action}
 use Rattle.raid_rules.specs.Conflict.{precedes}
 use Rattle.raid_rules.specs.Verdicts.{Question, reading, writing}
 use Rattle.raid_conflict.specs.declared.tables.Tables.{Tables}
-use Rattle.raid_conflict.specs.Tables.{chain_at, mark}
+use Rattle.raid_conflict.specs.Tables.{chain_at, chains_against, mark}
 
 -- the second action stands after the first and clashes with it, and its transaction has a place and isn't aborted
 abbrev pub is_against : Tables → Action → Action → Bool
@@ -24,7 +24,7 @@ latest at actions = fold (λ late b. if nat_lt at b.at then late ++ b ∷ [] els
 
 -- one of these actions has such an action of v at the end of the chain of its item
 abbrev pub leads_on : Tables → List Action → Txn → Bool
-leads_on t actions v = list_any (λ a. is_after t a (latest a.at (chain_at t.items.items a.item.0)) v) actions
+leads_on t actions v = list_any (λ a. is_after t a (latest a.at (chain_at (chains_against t a) a.item.0)) v) actions
 
 -- u isn't aborted, and one of its actions leads to v
 abbrev pub is_step : Tables → Txn → Txn → Bool

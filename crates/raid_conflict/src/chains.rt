@@ -1,4 +1,4 @@
-ghost use Rattle.std.specs.Prelude.{◌≡◌, ◌==◌, ◌<◌, ◌≤◌, ◌+◌, max, ℕ, ℤ, ◌∷◌, [], ◌++◌, filter, length, vec_len, All, OnOk, if◌then◌else◌};
+ghost use Rattle.std.specs.Prelude.{◌≡◌, ◌==◌, ◌<◌, ◌≤◌, ◌+◌, ◌&&◌, max, ℕ, ℤ, ◌∷◌, [], ◌++◌, filter, length, vec_len, All, OnOk, if◌then◌else◌};
 ghost use Rattle.raid_base.specs.declared.names.Item.{Item};
 ghost use Rattle.raid_base.specs.Names.{is_item};
 ghost use Rattle.raid_conflict.specs.Tables.{chain_at, room, writes_of};
@@ -75,6 +75,7 @@ pub fn add(chains: &mut [Chain], place: usize, action: Action)
 pub fn add_writes(chains: &mut [Chain], at: u64, by: Txn, writes: &[(Item, i64)])
     requires { All (λ w. length writes.now ≤ room chains.old w.0.0) writes.now }
     ensures added { (x : Item) → chain_at chains.new x.0 ≡ chain_at chains.old x.0 ++ filter (λ a. is_item x a.item) (writes_of at by writes.now) }
+    ensures written { (x : Item) → chain_at chains.new x.0 ≡ chain_at chains.old x.0 ++ filter (λ a. a.writes && is_item x a.item) (writes_of at by writes.now) }
 {
     for (item, _) in writes {
         let action = Action {

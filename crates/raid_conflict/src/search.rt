@@ -7,7 +7,7 @@ ghost use Rattle.raid_rules.specs.Conflict.{Path};
 ghost use Rattle.raid_conflict.specs.Found.{Longer};
 ghost use Rattle.raid_conflict.specs.Live.{Reached, Within};
 ghost use Rattle.raid_conflict.specs.Search as words;
-ghost use Rattle.raid_conflict.specs.Tables.{chain_at};
+ghost use Rattle.raid_conflict.specs.Tables.{chain_at, chains_against};
 
 use crate::found::Found;
 use crate::tables::Tables;
@@ -60,14 +60,16 @@ fn latest(actions: &[Action], at: u64) -> &[Action]
     &actions[start..]
 }
 
-/// Finds the transactions to which an action leads.
+/// Finds the transactions to which an action leads. Each action that is looked at stands after it and, unless it is
+/// of the same transaction, conflicts with it. So it belongs to that transaction, to one that is found here, or to one
+/// that is aborted, whose reads stay in the chains and are passed over. One action before those ends the look.
 fn find_from(tables: &Tables, found: &mut Found, action: &Action)
     requires { vec_len tables.now.own ≤ found.old.1 }
-    ensures found { (v : Txn) → has_txn found.new.0 v ≡ (has_txn found.old.0 v || words.is_after tables.now action.now (words.latest action.now.at (chain_at tables.now.items.items action.now.item.0)) v) }
+    ensures found { (v : Txn) → has_txn found.new.0 v ≡ (has_txn found.old.0 v || words.is_after tables.now action.now (words.latest action.now.at (chain_at (chains_against tables.now action.now) action.now.item.0)) v) }
     ensures longer { Longer found.old.0 found.new.0 }
     ensures places { found.new.1 ≡ found.old.1 }
 {
-    match tables.items.get(action.item.0 as usize) {
+    match tables.chains_against(action).get(action.item.0 as usize) {
         Some(chain) => {
             find_after(
                 tables,

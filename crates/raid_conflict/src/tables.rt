@@ -23,11 +23,13 @@ impl Mark {
     };
 }
 
-/// The tables of a graph: the actions on each item and those of each transaction, by number, the aborted ones'
-/// too; a mark for each transaction, by number; and the committed transactions, in the order of their Commits.
+/// The tables of a graph: the actions on each item, the writes among them, and the actions of each transaction, by
+/// number, the aborted ones' too; a mark for each transaction, by number; and the committed transactions, in the
+/// order of their Commits.
 #[derive(Drop, Debug)]
 pub struct Tables {
     pub items: Vec<Chain>,
+    pub writes: Vec<Chain>,
     pub own: Vec<Chain>,
     pub marks: Vec<Mark>,
     pub committed: Vec<Txn>,
@@ -53,9 +55,11 @@ impl Tables {
     {
         let own = Vec::with_capacity(alloc, transactions as usize + 1)?;
         let marks = Vec::with_capacity(alloc, transactions as usize + 1)?;
+        let writes = Vec::with_capacity(alloc, items as usize)?;
         let items = Vec::with_capacity(alloc, items as usize)?;
         Ok(Tables {
             items,
+            writes,
             own,
             marks,
             committed: Vec::new(alloc),
@@ -72,6 +76,18 @@ impl Tables {
             self.marks[place]
         } else {
             Mark::BLANK
+        }
+    }
+
+    /// The chains of what can conflict with an action: of the writes where it reads, since no read conflicts with a
+    /// read, else of all actions.
+    pub fn chains_against(&self, action: &Action) -> &[Chain]
+        ensures { result.now ≡ words.chains_against self.now action.now }
+    {
+        if action.writes {
+            self.items.as_slice()
+        } else {
+            self.writes.as_slice()
         }
     }
 
@@ -128,9 +144,11 @@ impl Tables {
         ensures err { OnErr result (words.AnswersAlike self.old self.new) }
     {
         chains::make_rooms(self.alloc, &mut self.items, writes.as_slice())?;
+        chains::make_rooms(self.alloc, &mut self.writes, writes.as_slice())?;
         chains::make_room(self.alloc, &mut self.own, txn.0 as usize, writes.len())?;
         self.committed.push(txn)?;
         chains::add_writes(&mut self.items, u64::from(at), txn, writes.as_slice());
+        chains::add_writes(&mut self.writes, u64::from(at), txn, writes.as_slice());
         chains::add_own(
             &mut self.own,
             txn.0 as usize,
@@ -168,6 +186,7 @@ impl Tables {
         ensures none { vec_len self.new.own ≡ 0 }
     {
         self.items.clear();
+        self.writes.clear();
         self.own.clear();
         self.marks.clear();
         self.committed.clear();

@@ -140,3 +140,11 @@ in_order true true = refl
 in_order true false = refl
 in_order false true = refl
 in_order false false = refl
+
+-- one more set's sites are found
+pub more_found : (sets : List (List Site)) (i : ℕ) (found set next : List Site) (s : Site) → 1 ≤ s.0 → s.0 ≤ 8 → i < length sets → set ≡ get_or sets i set → next ≡ filter (λ r. has_site found r || has_site set r) all_sites →
+    has_site found s ≡ list_any (λ z. has_site z s) (take i sets) → has_site next s ≡ list_any (λ z. has_site z s) (take (i + 1) sets)
+more_found sets i found set next s least most below is e before =
+    ap (λ z. has_site z s) e ∙ has_passed (λ r. has_site found r || has_site set r) s least most ∙ ap (λ b. b || has_site set s) before
+    ∙ ap (λ z. list_any (λ z. has_site z s) (take i sets) || has_site z s) is
+    ∙ sym (list_any_more (λ z. has_site z s) sets i set below)

@@ -49,6 +49,10 @@ names_sites sites other = true
 abbrev pub is_any_locked : List (List Site) → List Noted → Bool
 is_any_locked placement p = list_any (λ k. list_any (λ s. is_locked placement p s (let x : Item = record { 0 = k } in x)) all_sites) (count_from 0 (length placement))
 
+-- the site's copy of some item of the placement is locked
+abbrev pub is_any_locked_at : List (List Site) → List Noted → Site → Bool
+is_any_locked_at placement p s = list_any (λ k. is_locked placement p s (let x : Item = record { 0 = k } in x)) (count_from 0 (length placement))
+
 -- the site is up, and holds an unlocked copy of the item
 abbrev pub serves : Parts → Item → Site → Bool
 serves f x s = has_at f.holders x.0 s && is_site_up f.vector s && not (has_at f.locks x.0 s)

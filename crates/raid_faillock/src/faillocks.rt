@@ -4,7 +4,7 @@ ghost use Rattle.raid_base.specs.declared.names.Site.{Site};
 ghost use Rattle.raid_base.specs.declared.names.Item.{Item};
 ghost use Rattle.raid_base.specs.declared.entry.Noted.{Noted};
 ghost use Rattle.raid_base.specs.declared.entry.Entry.TheVariants as entries;
-ghost use Rattle.raid_base.specs.Names.{is_site};
+ghost use Rattle.raid_base.specs.Names.{is_site, has_site};
 ghost use Rattle.raid_base.specs.Sites.{all_sites};
 ghost use Rattle.raid_rules.specs.Sessions as rules;
 ghost use Rattle.raid_faillock.specs.Sets.{has_at};
@@ -217,6 +217,13 @@ impl FailLocks {
         ensures { (sites : ℕ) (placement : List (List Site)) (p : List Noted) → Stands self.now sites placement p → result ≡ words.is_any_locked placement p }
     {
         self.locks.is_any()
+    }
+
+    /// The sites at which a copy of an item of the placement is locked.
+    pub fn locked_sites(&self) -> Sites
+        ensures { (sites : ℕ) (placement : List (List Site)) (p : List Noted) → Stands self.now sites placement p → (s : Site) → 1 ≤ s.0 → s.0 ≤ 8 → has_site result s ≡ words.is_any_locked_at placement p s }
+    {
+        self.locks.anywhere()
     }
 
     /// Whether the site owes the acknowledgement of the transaction's Commit.

@@ -6,7 +6,7 @@ ghost use Rattle.raid_base.specs.Names.{is_site, is_item, has_site, holds};
 ghost use Rattle.raid_faillock.specs.Sets.{has_at, has_any};
 
 use raid_base::{Item, NoMemory, Site, Sites};
-use raid_session::{difference, sets, without};
+use raid_session::{difference, sets, union, without};
 use std::alloc::Global;
 use std::marker::Model;
 
@@ -79,6 +79,17 @@ impl Locks {
         ensures { result ≡ list_any has_any self.now }
     {
         self.some > 0
+    }
+
+    /// The sites at which the copy of some item is locked. Looks at each item, with no early end.
+    pub fn anywhere(&self) -> Sites
+        ensures { (s : Site) → 1 ≤ s.0 → s.0 ≤ 8 → has_site result s ≡ list_any (λ set. has_site set s) self.now }
+    {
+        let mut found = Sites::none();
+        for set in self.sets.as_slice() {
+            found = union(found, *set);
+        }
+        found
     }
 
     /// Locks the copies of the item at these sites, and no other.

@@ -228,6 +228,8 @@ fn a_write_locks_the_copies_that_it_passes_by(rt: HostRuntime) -> Result<(), NoM
         assert_eq!(rt; locks.is_any_locked(), any, "at {text}");
         assert_eq!(rt; locks.source_for(X, Site(1)), source, "at {text}");
     }
+    let locks = after(alloc, all, "c1x@13 c2y@2")?;
+    assert_eq!(rt; locks.locked_sites(), Sites(6));
     Ok(())
 }
 

@@ -18,7 +18,7 @@ use Rattle.raid_rules.proofs.Sources.{is_known, has_passed}
 use Rattle.raid_legal.specs.Seen.{is_locked, sources, is_up, vector}
 use Rattle.raid_steps.specs.State.{Out, Copying}
 use Rattle.raid_steps.specs.Sequencer.{copies_due, copy_out}
-use Rattle.raid_faillock.specs.Stands.{is_any_locked}
+use Rattle.raid_faillock.specs.Stands.{is_any_locked, is_any_locked_at}
 use Rattle.raid_copier.specs.declared.copiers.Copiers.{Copiers}
 use Rattle.raid_copier.specs.Copiers as ways
 use Rattle.raid_record.specs.Turns.{copy_due, Asked}
@@ -187,6 +187,28 @@ none_due w p out e =
     (λ k least below.
     unlocked w p out (site k) 0 (length w.items) (is_known k least (omega (arith, below, few_sites w)))
     (ap (λ n. list_any (λ k. list_any (λ r. rules.is_locked (placement w) p r (item k)) all_sites) (count_from 0 n)) (sym (placed_count (λ line. line.holders) w.items)) ∙ e))
+
+-- where a site has no locked copy none of its own is due
+locked_nowhere : (w : Workload) (p : List Noted) (out : List Copying) (s : Site) (a n : ℕ) → list_any (λ k. rules.is_locked (placement w) p s (item k)) (count_from a n) ≡ false → filter_map (copy_due w p out s) (map item (count_from a n)) ≡ []
+locked_nowhere w p out s a zero e = refl
+locked_nowhere w p out s a (suc n) e =
+    let both = neither (rules.is_locked (placement w) p s (item a)) (list_any (λ k. rules.is_locked (placement w) p s (item k)) (count_from (a + 1) n)) e in
+    ap
+    (λ b. cons_option (if b && not (list_any (λ c. is_site s c.target && is_item (item a) c.item) out) then option_map (copy s (item a)) (slice_get (sources w p (item a)) 0) else None) (filter_map (copy_due w p out s) (map item (count_from (a + 1) n))))
+    both.one
+    ∙ locked_nowhere w p out s (a + 1) n both.two
+
+none_there : (w : Workload) (p : List Noted) (out : List Copying) (s : Site) → is_any_locked_at (placement w) p s ≡ false → copies_due w p out s ≡ []
+none_there w p out s e =
+    locked_nowhere w p out s 0 (length w.items)
+    (ap (λ n. list_any (λ k. rules.is_locked (placement w) p s (item k)) (count_from 0 n)) (sym (placed_count (λ line. line.holders) w.items)) ∙ e)
+
+pub idle_at : (w : Workload) (p : List Noted) (v : List ℕ) (out : List Copying) (s : Site) → is_any_locked_at (placement w) p s ≡ false → due_at w p v out s ≡ []
+idle_at w p v out s e = go (rules.is_site_up v s)
+  where
+    go : (b : Bool) → (if b then copies_due w p out s else []) ≡ []
+    go true = none_there w p out s e
+    go false = refl
 
 -- what is due for one copy
 pub due_is : (w : Workload) (p : List Noted) (before : List Copying) (s : Site) (x : Item) (o : Option Site) → is_locked w p s x ≡ true → list_any (ways.is_to s x) before ≡ false → o ≡ slice_get (sources w p x) 0 →

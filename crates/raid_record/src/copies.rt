@@ -4,6 +4,7 @@ ghost use Rattle.std.specs.Prelude.{◌≡◌, ◌≤◌, false, List, [], ◌�
 ghost use Rattle.std.specs.List.{list_any};
 ghost use Rattle.raid_base.specs.declared.names.Item.{Item};
 ghost use Rattle.raid_base.specs.declared.entry.Noted.{Noted};
+ghost use Rattle.raid_base.specs.Names.{has_site};
 ghost use Rattle.raid_workload.specs.declared.workload.Workload.{Workload};
 ghost use Rattle.raid_workload.specs.Parts as parts;
 ghost use Rattle.raid_rules.specs.Sessions.{is_site_up};
@@ -15,7 +16,7 @@ ghost use Rattle.raid_copier.specs.Copiers as ways;
 ghost use Rattle.raid_record.specs.Turns.{copy_due, Asked};
 
 use crate::sends::{session_of, to_site};
-use raid_base::{Item, NoMemory, Site, Vector};
+use raid_base::{Item, NoMemory, Site, Sites, Vector};
 use raid_copier::Copiers;
 use raid_faillock::FailLocks;
 use raid_message::{Message, Outs};
@@ -97,10 +98,11 @@ fn renew_site(
     Ok(())
 }
 
-/// The same where the site is up.
+/// The same where the site is up, given the sites at which a copy is locked: at another it goes through no item.
 fn renew_up(
     workload: &Workload,
     locks: &FailLocks,
+    locked: Sites,
     copiers: &mut Copiers,
     vector: Vector,
     site: Site,
@@ -108,8 +110,11 @@ fn renew_up(
 ) -> Result<(), NoMemory>
     requires least { 1 ≤ site.0 }
     requires most { site.0 ≤ 8 }
-    ensures { OnOk result ((p : List Noted) (before out : List Copying) → faillocks.Stands locks.now workload.now.sites (parts.placement workload.now) p → ways.Stands copiers.old out → ((x : Item) → list_any (ways.is_to site x) out ≡ list_any (ways.is_to site x) before) → Asked vector copiers.new outs.old outs.new out (if is_site_up vector site then copies_due workload.now p before site else [])) }
+    ensures { OnOk result ((p : List Noted) (before out : List Copying) → faillocks.Stands locks.now workload.now.sites (parts.placement workload.now) p → has_site locked site ≡ faillocks.is_any_locked_at (parts.placement workload.now) p site → ways.Stands copiers.old out → ((x : Item) → list_any (ways.is_to site x) out ≡ list_any (ways.is_to site x) before) → Asked vector copiers.new outs.old outs.new out (if is_site_up vector site then copies_due workload.now p before site else [])) }
 {
+    if !locked.contains(site) {
+        return Ok(());
+    }
     if session_of(vector, site) > 0 {
         return renew_site(workload, locks, copiers, vector, site, outs);
     }
@@ -126,8 +131,9 @@ pub fn renew_all(
 ) -> Result<(), NoMemory>
     ensures { OnOk result ((p : List Noted) (out : List Copying) → faillocks.Stands locks.now workload.now.sites (parts.placement workload.now) p → ways.Stands copiers.old out → vector ≡ seen.vector workload.now p → Asked vector copiers.new outs.old outs.new out (flat_map (copies_due workload.now p out) (filter (seen.is_up workload.now p) (parts.sites workload.now)))) }
 {
+    let locked = locks.locked_sites();
     for k in 0..workload.sites {
-        renew_up(workload, locks, copiers, vector, Site(k + 1), outs)?;
+        renew_up(workload, locks, locked, copiers, vector, Site(k + 1), outs)?;
     }
     Ok(())
 }

@@ -112,8 +112,8 @@ impl Record {
         self.history.push(entry)
     }
 
-    /// Sends for each copy at an up site that is to be renewed: locked, with a source, and not under way. Looks at no copy where none
-    /// is locked.
+    /// Sends for each copy at an up site that is to be renewed: locked, with a source, and not under way. Looks only at the
+    /// copies of sites that have a locked one.
     pub fn send_copies(&mut self, workload: &Workload, outs: &mut Outs) -> Result<(), NoMemory>
         ensures kept { (w : Workload) → IsKept w self.old → IsKept w self.new }
         ensures history { self.new.history ≡ self.old.history }

@@ -1,5 +1,8 @@
-use Rattle.std.proofs.Common.{◌≡◌, ◌++◌, arith, ap, sym, ◌∙◌}
+use Rattle.std.proofs.Common.{◌≡◌, ◌+◌, ◌++◌, arith, ap, sym, ◌∙◌}
 use Rattle.std.specs.Prelude.{flat_map}
+use Rattle.raid_base.specs.Sites.{site}
+use Rattle.raid_workload.specs.Parts.{placement}
+use Rattle.raid_record.proofs.Rules.{few_sites}
 use Rattle.raid_record.proofs.Sites.{sites_to, made_more}
 use Rattle.raid_record.proofs.Renewed.{due_at, all_due, asked_none, asked_more, asked_for, next_site}
 use Rattle.raid_record.proofs.copies.renew_all.Goals as goal
@@ -14,7 +17,7 @@ loop-k-preserved c = λ p out locks stands.
     let k = c.loop-k.k in
     let asked = c.loop-k.invariant p out locks stands in
     asked_for _ _ _ _ _ _ _ (sym (made_more (due_at w p v out) k))
-    (asked_more _ _ _ _ _ _ _ _ _ asked (c.in_ok-renew_up.ensures p out (out ++ flat_map (due_at w p v out) (sites_to k)) locks asked.copying (next_site w p v out k)))
+    (asked_more _ _ _ _ _ _ _ _ _ asked (c.in_ok-renew_up.ensures p out (out ++ flat_map (due_at w p v out) (sites_to k)) locks (c.locked_sites-locked.ensures w.sites (placement w) p locks (site (k + 1)) (omega arith) (omega (arith, few_sites w, c.loop-k-test.true))) asked.copying (next_site w p v out k)))
 
 pub returns : goal.returns
 returns c = λ p out locks stands is.
