@@ -5,10 +5,13 @@ use crate::told::{Way, told};
 use std::test::Fail;
 
 /// Lines of words, each with a space between any two.
-const REFUSED: [&str; 20] = [
+const REFUSED: [&str; 26] = [
     "",
     "--",
     "--help",
+    "--version",
+    "-h",
+    "help",
     "RUN",
     "runs",
     "run run",
@@ -21,11 +24,14 @@ const REFUSED: [&str; 20] = [
     "make --seed 1",
     "make --count 1",
     "make --seed 1 --count 0",
+    "make --seed 1 --count 000000000",
     "make --seed 1 --count 2001",
+    "make --seed 1000000000 --count 1",
     "make --seed 1 --count 0000000001",
     "make --seed 1 --count 1 --count 1",
     "make --seed -- --count 1",
     "make --seed --count 1",
+    "make --se 1 --cou 1",
 ];
 
 #[test]

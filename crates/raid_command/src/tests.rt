@@ -12,6 +12,14 @@ fn asked(alloc: Global, line: &str) -> Result<Option<Command>, NoMemory> {
 }
 
 #[test]
+fn an_empty_word_is_none_of_the_forms(rt: HostRuntime) -> Result<(), NoMemory> {
+    let mut words = Words::new(rt.alloc());
+    words.push(String::new(rt.alloc()))?;
+    assert!(rt; command(rt.alloc(), &words) == Ok(None));
+    Ok(())
+}
+
+#[test]
 fn run_with_the_report_or_the_summary(rt: HostRuntime) {
     assert!(rt; asked(rt.alloc(), "run") == Ok(Some(Command::Run { brief: false })));
     assert!(rt; asked(rt.alloc(), "run --brief") == Ok(Some(Command::Run { brief: true })));
@@ -32,6 +40,8 @@ fn run_with_anything_else_is_refused(rt: HostRuntime) {
 fn another_first_word_is_refused(rt: HostRuntime) {
     assert!(rt; asked(rt.alloc(), "") == Ok(None));
     assert!(rt; asked(rt.alloc(), "--help") == Ok(None));
+    assert!(rt; asked(rt.alloc(), "-h") == Ok(None));
+    assert!(rt; asked(rt.alloc(), "--version") == Ok(None));
     assert!(rt; asked(rt.alloc(), "--brief run") == Ok(None));
     assert!(rt; asked(rt.alloc(), "runs") == Ok(None));
 }
@@ -54,6 +64,13 @@ fn make_in_each_order_and_spelling(rt: HostRuntime) {
         asked(rt.alloc(), "make --seed 0 --count 1")
             == Ok(Some(Command::Make { seed: 0, count: 1 }))
     );
+    assert!(rt;
+        asked(rt.alloc(), "make --seed 999999999 --count 1")
+            == Ok(Some(Command::Make {
+                seed: 999999999,
+                count: 1
+            }))
+    );
 }
 
 #[test]
@@ -65,11 +82,13 @@ fn make_without_both_options_once_is_refused(rt: HostRuntime) {
     assert!(rt; asked(rt.alloc(), "make --seed 1 --count 1 1") == Ok(None));
     assert!(rt; asked(rt.alloc(), "make --seed 1 --count 1 --brief") == Ok(None));
     assert!(rt; asked(rt.alloc(), "make -- --seed 1 --count 1") == Ok(None));
+    assert!(rt; asked(rt.alloc(), "make --se 1 --cou 1") == Ok(None));
 }
 
 #[test]
 fn numbers_outside_their_form_are_refused(rt: HostRuntime) {
     assert!(rt; asked(rt.alloc(), "make --seed 1 --count 0") == Ok(None));
+    assert!(rt; asked(rt.alloc(), "make --seed 1 --count 000000000") == Ok(None));
     assert!(rt; asked(rt.alloc(), "make --seed 1 --count 2001") == Ok(None));
     assert!(rt; asked(rt.alloc(), "make --seed 1234567890 --count 1") == Ok(None));
     assert!(rt; asked(rt.alloc(), "make --seed 0000000001 --count 1") == Ok(None));
