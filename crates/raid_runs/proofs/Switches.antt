@@ -132,6 +132,10 @@ module _ (w : Workload) (p : List Noted) where
   calm k (SwitchEnd j) said = absurd said
   calm k other said = (refl, refl)
 
+-- the entry that aborts a transaction for the switch
+abbrev off_by : ℕ → Txn → Entry
+off_by k t = Abort t (SwitchOff k) acts.Nothing
+
 -- a switch, where nothing is forced
 module _ (w : Workload) (h : List Entry) (free : forced w (noted h) ≡ None) (at k : ℕ) (ts : List Txn) (g : Progress w h (noted h) at k ts) where
   none_left : g.left ≡ []
@@ -150,9 +154,9 @@ module _ (w : Workload) (h : List Entry) (free : forced w (noted h) ≡ None) (a
   -- it has aborted just those that it may
   just : AbortsJust h at k ts
   just = record {
-    follow = ap (λ l. take (length ts) l) g.follow ∙ ap (λ l. take (length l) (map (λ t. Abort t (SwitchOff k) acts.Nothing) g.aborted ++ g.behind)) all
-        ∙ ap (λ n. take n (map (λ t. Abort t (SwitchOff k) acts.Nothing) g.aborted ++ g.behind)) (sym (length-map g.aborted (λ t. Abort t (SwitchOff k) acts.Nothing)))
-        ∙ take-append_seam (map (λ t. Abort t (SwitchOff k) acts.Nothing) g.aborted) g.behind ∙ sym (ap (map (λ t. Abort t (SwitchOff k) acts.Nothing)) all);
+    follow = ap (take (length ts)) g.follow ∙ ap (λ l. take (length l) (map (off_by k) g.aborted ++ g.behind)) all
+        ∙ ap (λ n. take n (map (off_by k) g.aborted ++ g.behind)) (sym (length-map g.aborted (off_by k)))
+        ∙ take-append_seam (map (off_by k) g.aborted) g.behind ∙ sym (ap (map (off_by k)) all);
     no_other = g.count ∙ sym (ap length all);
   }
 
@@ -164,7 +168,7 @@ module _ (w : Workload) (h : List Entry) (free : forced w (noted h) ≡ None) (a
     behind = g.behind ++ e ∷ [];
     whole = g.whole;
     within = (let short : at ≤ length h = g.within in omega (arith, short, length-append h (e ∷ [])));
-    follow = drop-append-le at h (e ∷ []) g.within ∙ ap (λ l. l ++ e ∷ []) g.follow ∙ append_assoc (map (λ t. Abort t (SwitchOff k) acts.Nothing) g.aborted) g.behind (e ∷ []);
+    follow = drop-append-le at h (e ∷ []) g.within ∙ ap (λ l. l ++ e ∷ []) g.follow ∙ append_assoc (map (off_by k) g.aborted) g.behind (e ∷ []);
     count = count_push (is_aborted_by k) h e (calm w (noted h) k e said).1 ∙ g.count;
     low = subst (λ (f : InForce). k ≤ f.switches) (sym same) g.low;
     last = subst (λ (f : InForce). f.switches ≡ k → f.off ≡ ts) (sym same) g.last;
