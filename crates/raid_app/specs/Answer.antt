@@ -10,6 +10,7 @@ use Rattle.raid_generator.specs.Made.{IsMade}
 use Rattle.raid_steps.specs.World.{run, report, rounds, is_idle}
 use Rattle.raid_report.specs.Spelling.{print_of}
 use Rattle.raid_report.specs.Brief.{brief_of}
+use Rattle.raid_runs.specs.Upheld.{Upheld}
 use Rattle.raid_command.specs.declared.asked.Command.TheVariants as commands
 use Rattle.raid_command.specs.Asked.{command_of}
 use Rattle.raid_io.specs.Ends.{Took, IsAtEnd}
@@ -35,10 +36,10 @@ abbrev pub told : Bool → Workload → Report → List ℕ
 told true w r = brief_of w r
 told false w r = print_of w r
 
--- what is to be said of a workload whose servers were run in the fixed order: once no letter is left, what is written of its report; or
--- nothing, as a letter is left after as many picks as the bound on a run
+-- what is to be said of a workload whose servers were run in the fixed order: once no letter is left, what is written of its report, and
+-- that is upheld; or nothing, as a letter is left after as many picks as the bound on a run
 pub data Runs (brief : Bool) (w : Workload) : Answer → Type 0 where
-  idle : (schedule : List Pick) → IsRun w schedule → is_idle (run w schedule) ≡ true → Runs brief w (record { status = 0; text = Some (told brief w (report w (run w schedule).servers)); schedule = schedule })
+  idle : (schedule : List Pick) → IsRun w schedule → is_idle (run w schedule) ≡ true → Upheld w (report w (run w schedule).servers) → Runs brief w (record { status = 0; text = Some (told brief w (report w (run w schedule).servers)); schedule = schedule })
   spent : (schedule : List Pick) → IsRun w schedule → length schedule ≡ rounds w → is_idle (run w schedule) ≡ false → Runs brief w (record { status = 7; text = None; schedule = schedule })
 
 -- what is to be said of a text: that it is too long; what its first fault is; or what is to be said of the workload that it says

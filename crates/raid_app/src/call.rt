@@ -34,6 +34,12 @@ pub struct Ended {
 /// The rack has to be whole and its controllers cleared. In a run the next letter is always that to the least server, from its least
 /// sender, that waits; the schedule is the list of these picks. It is empty where no run was made, or memory was refused in it. `make` and
 /// words that are refused leave the source as it was. For status 0 of a run the source was read to its end.
+///
+/// The report of such a run is upheld. Each entry of its history is the one that the rules force there, or else one that they let come, and a
+/// read or a commit has their answer: so each abort has the cause that they give, but that of a program which ends itself is the word of
+/// its home. Each switch aborted just those of its list; each action while two controllers were in force was granted by both; no read was
+/// granted at a copy that had missed a write; and the order lists each committed transaction once and no other, with each conflict leading
+/// onward. That the programs, run alone in that order, make the reads that are told is no part of it.
 pub fn run<S: Source, K: Sink>(
     alloc: Global,
     words: &Words,

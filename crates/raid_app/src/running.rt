@@ -61,8 +61,8 @@ fn told(
     }
 }
 
-/// Runs the servers of a workload. What is to be said of it is its report, or where `is_brief` holds its summary; or nothing, where a letter
-/// was left after as many picks as `rounds` has. Want of memory is the only error.
+/// Runs the servers of a workload. What is to be said of it is its report, which is upheld, or where `is_brief` holds its summary; or nothing,
+/// where a letter was left after as many picks as `rounds` has. Want of memory is the only error.
 pub fn run_workload(
     alloc: Global,
     is_brief: bool,

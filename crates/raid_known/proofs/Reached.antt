@@ -105,11 +105,11 @@ module _ (w : Workload) where
           absurd (no_letter l rest (sym (past (slice_index_or links server []) from [] (omega (arith, h, beyond))) ∙ q))
 
   -- what holds of reached worlds
-  record Reached (s : World) : Type 0 where
+  pub record Reached (s : World) : Type 0 where
     narrow : AreNarrow s.links
     told : Told w s.servers.sequencer.history
-    placed : Placed w s.servers.sequencer.history
-    quiet : forced w (noted s.servers.sequencer.history) ≡ None
+    pub placed : Placed w s.servers.sequencer.history
+    pub quiet : forced w (noted s.servers.sequencer.history) ≡ None
 
   record Sound (h : List Entry) : Type 0 where
     told : Told w h
@@ -158,7 +158,7 @@ module _ (w : Workload) where
         quiet = opening_quiet w;
       }
 
-  reached : (schedule : List Pick) → Reached (run w schedule)
+  pub reached : (schedule : List Pick) → Reached (run w schedule)
   reached schedule = picks_reached (open_world w) schedule open_reached
 
   -- whom the entries name
