@@ -10,7 +10,7 @@ ghost use Rattle.raid_tables.specs.Rows.{row_of, HasRoom};
 ghost use Rattle.raid_tables.specs.Running.{marked, entry_of, noted_of, KnowsRunning, HasRunningRoom, Ends};
 
 use crate::places::{at, grow};
-use crate::rows::{push_in, reserve_in, row};
+use crate::rows::{push_in, reserve_from, row, spare_row};
 use raid_base::{Entry, Item, NoMemory, Noted, Site, Txn};
 use raid_control::Carry;
 use std::alloc::Global;
@@ -49,6 +49,7 @@ pub struct Running {
     ended: Vec<bool>,
     begins: Vec<u32>,
     reads: Vec<Vec<Seen>>,
+    spare: Vec<Vec<Seen>>,
     log: Vec<Start>,
     stale: usize,
 }
@@ -131,17 +132,16 @@ fn count_live_reads(log: &[Start], ended: &[bool]) -> usize
     count
 }
 
-/// Takes out the Reads of a transaction that ends, and gives their memory back. It answers how many there were.
-fn forget(alloc: Global, reads: &mut Vec<Vec<Seen>>, txn: Txn) -> usize
+/// Takes out the Reads of a transaction that ends, and keeps their memory for another where there is room for it. It answers how many
+/// there were.
+fn forget(alloc: Global, reads: &mut Vec<Vec<Seen>>, spare: &mut Vec<Vec<Seen>>, txn: Txn) -> usize
     ensures { (u : Txn) → is_txn txn u ≡ false → row_of reads.new.items u.0 ≡ row_of reads.old.items u.0 }
 {
     let place = txn.0 as usize;
     if reads.len() <= place {
         return 0;
     }
-    let count = reads[place].len();
-    reads[place] = Vec::new(alloc);
-    count
+    spare_row(alloc, reads, spare, place)
 }
 
 /// Thins out the log where its larger part is stale, and answers how many stale starts are left there at most. It stays what it was for
@@ -170,6 +170,7 @@ impl Running {
             ended,
             begins,
             reads,
+            spare: Vec::new(alloc),
             log: Vec::new(alloc),
             stale: 0,
         })
@@ -224,7 +225,7 @@ impl Running {
         ensures ok { OnOk result (HasRoom self.new.reads.items txn.0 × (vec_len self.new.log < vec_capacity self.new.log)) }
         ensures same { (view : List Noted) → KnowsRunning self.old view → KnowsRunning self.new view }
     {
-        reserve_in(self.alloc, &mut self.reads, txn.0 as usize)?;
+        reserve_from(self.alloc, &mut self.reads, &mut self.spare, txn.0 as usize)?;
         self.log.reserve(1)?;
         Ok(())
     }
@@ -233,7 +234,9 @@ impl Running {
         ensures ok { OnOk result (txn.0 < vec_len self.new.ended) }
         ensures same { (view : List Noted) → KnowsRunning self.old view → KnowsRunning self.new view }
     {
-        grow(&mut self.ended, txn.0 as usize, false)
+        grow(&mut self.ended, txn.0 as usize, false)?;
+        self.spare.reserve(1)?;
+        Ok(())
     }
 
     /// Takes the memory for noting the entry. No answer changes, also after want of memory.
@@ -288,7 +291,7 @@ impl Running {
         ensures { Ends self.old self.new txn }
     {
         self.ended[txn.0 as usize] = true;
-        let count = forget(self.alloc, &mut self.reads, txn);
+        let count = forget(self.alloc, &mut self.reads, &mut self.spare, txn);
         let stale = self.stale.saturating_add(count).saturating_add(1);
         self.stale = thin_out(&mut self.log, &self.ended, stale);
     }
@@ -320,6 +323,7 @@ impl Running {
         self.ended.clear();
         self.begins.clear();
         self.reads.clear();
+        self.spare.clear();
         self.log.clear();
         self.stale = 0;
     }
