@@ -1,5 +1,5 @@
 -- What the tables know, in the words of the verdicts.
-use Rattle.std.proofs.Common.{◌≡◌, ◌==◌, ℕ, Bool, true, false, not, ◌&&◌, ◌||◌, nat_lt, if◌then◌else◌, List, [], ◌∷◌, ◌++◌, filter, slice_index, arith, refl, ap, sym, subst, ◌∙◌}
+use Rattle.std.proofs.Common.{◌≡◌, ◌==◌, ℕ, Bool, true, false, not, ◌&&◌, ◌||◌, nat_lt, if◌then◌else◌, List, [], ◌∷◌, ◌++◌, map, filter, slice_index, arith, refl, ap, sym, subst, ◌∙◌}
 use Rattle.std.specs.Prelude.{Result, Ok, Err, IfOk}
 use Rattle.std.specs.List.{list_any, count_by}
 use Rattle.std.proofs.lemmas.Grind.{common_steps}
@@ -21,20 +21,21 @@ use Rattle.raid_rules.specs.Verdicts.{is_past, is_invalid}
 use Rattle.raid_rules.specs.Views.{is_overwrite, is_backward}
 use Rattle.raid_rules.proofs.Push.{number_of_push}
 use Rattle.raid_control.specs.Carried.{is_start, carried}
+use Rattle.raid_tables.specs.declared.running.Start.{Start}
 use Rattle.raid_tables.specs.declared.running.Running.{Running}
 use Rattle.raid_tables.specs.declared.readers.Readers.{Readers}
 use Rattle.raid_tables.specs.declared.commits.Commits.{Commits}
 use Rattle.raid_tables.specs.Rows.{row_of}
-use Rattle.raid_tables.specs.Running.{marked, PassesRunning, KnowsRunning, Ends}
+use Rattle.raid_tables.specs.Running.{marked, entry_of, noted_of, PassesRunning, KnowsRunning, Ends}
 use Rattle.raid_tables.specs.Readers.{KnowsReaders}
 use Rattle.raid_tables.specs.Commits.{KnowsCommits}
-use Rattle.raid_tables.proofs.Starts.{count_filtered, read_starts, unless_not}
+use Rattle.raid_tables.proofs.Starts.{count_filtered, count_map, read_passes, read_starts, unless_not}
 
 -- the live part of the log is what is carried
-pub log_is_carried : (r : Running) (view : List Noted) → KnowsRunning r view → filter (λ n. is_start (λ t. not (marked r.ended.items t)) n.entry) r.log.items ≡ carried view
+pub log_is_carried : (r : Running) (view : List Noted) → KnowsRunning r view → map noted_of (filter (λ s. not (marked r.ended.items s.txn)) r.log.items) ≡ carried view
 log_is_carried r view k =
-    let same : filter (λ n. is_start (λ t. not (marked r.ended.items t)) n.entry) r.log.items ≡ filter (λ n. is_start (λ t. not (has_ended view t)) n.entry) r.log.items = simp k.ends in
-    same ∙ k.starts (λ t. not (has_ended view t)) (λ t h. unless_not (has_ended view t) h)
+    let same : filter (λ s. not (marked r.ended.items s.txn)) r.log.items ≡ filter (λ s. not (has_ended view s.txn)) r.log.items = simp k.ends in
+    ap (λ xs. map noted_of xs) same ∙ k.starts (λ t. not (has_ended view t)) (λ t h. unless_not (has_ended view t) h)
 
 pub if_ok : {T E : Type 0} {P Q : T → Type 0} → (r : Result T E) → ((v : T) → P v → Q v) → IfOk r P → IfOk r Q
 if_ok (Ok v) f h = f v h
@@ -42,14 +43,16 @@ if_ok (Err e) f h = h
 
 -- the live Reads of the log are those of the view
 pub log_reads : (r : Running) (view : List Noted) → KnowsRunning r view →
-    count_by (λ n. is_read (λ t x s. not (marked r.ended.items t)) n.entry) r.log.items ≡ count_by (λ n. is_read (λ t x s. not (has_ended view t)) n.entry) view
+    count_by (λ s. is_read (λ t x site. not (marked r.ended.items t)) (entry_of s.txn s.what)) r.log.items ≡ count_by (λ n. is_read (λ t x s. not (has_ended view t)) n.entry) view
 log_reads r view k =
     let live : Txn → Bool = λ t. not (has_ended view t) in
     let reads : Noted → Bool = λ n. is_read (λ t x s. live t) n.entry in
     let starts : Noted → Bool = λ n. is_start live n.entry in
+    let own : Start → Bool = λ s. live s.txn in
     let more = λ (n : Noted) (h : reads n ≡ true). read_starts live n.entry h in
-    let same : count_by (λ n. is_read (λ t x s. not (marked r.ended.items t)) n.entry) r.log.items ≡ count_by reads r.log.items = simp k.ends in
-    same ∙ sym (count_filtered reads starts more r.log.items)
+    let same : count_by (λ s. is_read (λ t x site. not (marked r.ended.items t)) (entry_of s.txn s.what)) r.log.items ≡ count_by (λ s. reads (noted_of s)) r.log.items = simp k.ends in
+    same ∙ sym (count_filtered (λ s. reads (noted_of s)) own (λ s h. read_passes live s.txn s.what h) r.log.items)
+    ∙ sym (count_map reads noted_of (filter own r.log.items))
     ∙ ap (λ ns. count_by reads ns) (k.starts live (λ t h. unless_not (has_ended view t) h)) ∙ count_filtered reads starts more view
 
 -- where the transaction hasn't ended, no Commit is its own
@@ -111,7 +114,7 @@ knows_end r s t n ends begins reads starts e view k = record {
       ap (λ ss. list_any (λ s. test s.item s.number) ss) (e.reads u (symmetric t u ∙ sym (ends u) ∙ both.1))
       ∙ k.reads u both.0 test ∙ sym (any_push (λ m. is_read (λ w x s. is_txn u w && test x m.at) m.entry) view n (reads (λ w x s. is_txn u w && test x n.at)));
   starts = λ test p.
-      e.starts test (λ u h. grind (arith, common_steps, e.ends u, k.ends u, has_ended_push view n u, ends u, p u h))
+      ap (λ xs. map noted_of xs) (e.starts test (λ u h. grind (arith, common_steps, e.ends u, k.ends u, has_ended_push view n u, ends u, p u h)))
       ∙ k.starts test (λ u h. (neither (has_ended view u) (is_end_of u n.entry) (sym (has_ended_push view n u) ∙ p u h)).0)
       ∙ sym (filter_push (λ m. is_start test m.entry) view n (starts test));
 }

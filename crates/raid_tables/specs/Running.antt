@@ -1,5 +1,5 @@
 -- What the table of running transactions says of a view.
-use Rattle.std.specs.Prelude.{◌≡◌, ℕ, ◌<◌, Bool, true, false, ◌&&◌, ◌||◌, List, filter, slice_index, slice_index_or, vec_len, vec_capacity, ⊤}
+use Rattle.std.specs.Prelude.{◌≡◌, ℕ, ◌<◌, Bool, true, false, ◌&&◌, ◌||◌, List, map, filter, slice_index, slice_index_or, vec_len, vec_capacity, ⊤}
 use Rattle.std.specs.List.{list_any}
 use Rattle.raid_base.specs.declared.names.Item.{Item}
 use Rattle.raid_base.specs.declared.names.Txn.{Txn}
@@ -11,11 +11,23 @@ use Rattle.raid_rules.specs.Entries.{is_read}
 use Rattle.raid_rules.specs.History.{stamp, has_ended}
 use Rattle.raid_control.specs.Carried.{is_start}
 use Rattle.raid_tables.specs.Rows.{row_of, HasRoom}
+use Rattle.raid_tables.specs.declared.running.Started.{Started}
+use Rattle.raid_tables.specs.declared.running.Started.TheVariants as starts
+use Rattle.raid_tables.specs.declared.running.Start.{Start}
 use Rattle.raid_tables.specs.declared.running.Running.{Running}
 
 -- the transaction's flag is set
 abbrev pub marked : List Bool → Txn → Bool
 marked flags t = slice_index_or flags t.0 false
+
+-- the entry that a start of the transaction is
+abbrev pub entry_of : Txn → Started → Entry
+entry_of t (starts.Begin home) = Begin t home
+entry_of t (starts.Read x site) = Read t x site
+
+-- the noted entry that a start stands for
+abbrev pub noted_of : Start → Noted
+noted_of s = record { at = s.number; stamp = s.stamp; entry = entry_of s.txn s.what }
 
 -- the test passes none but transactions that haven't ended in the view
 abbrev pub PassesRunning : List Noted → (Txn → Bool) → Type 0
@@ -28,7 +40,7 @@ pub record KnowsRunning (r : Running) (view : List Noted) : Type 0 where
   pub begins : (t : Txn) → slice_index r.begins.items t.0 ≡ stamp view t
   pub reads : (t : Txn) → has_ended view t ≡ false → (test : Item → ℕ → Bool) →
       list_any (λ s. test s.item s.number) (row_of r.reads.items t.0) ≡ list_any (λ n. is_read (λ u x s. is_txn t u && test x n.at) n.entry) view
-  pub starts : (test : Txn → Bool) → PassesRunning view test → filter (λ n. is_start test n.entry) r.log.items ≡ filter (λ n. is_start test n.entry) view
+  pub starts : (test : Txn → Bool) → PassesRunning view test → map noted_of (filter (λ s. test s.txn) r.log.items) ≡ filter (λ n. is_start test n.entry) view
 
 -- there is room for the entry
 abbrev pub HasRunningRoom : Running → Entry → Type 0
@@ -44,4 +56,4 @@ pub record Ends (r s : Running) (t : Txn) : Type 0 where
   pub begins : s.begins ≡ r.begins
   pub reads : (u : Txn) → is_txn t u ≡ false → row_of s.reads.items u.0 ≡ row_of r.reads.items u.0
   pub starts : (test : Txn → Bool) → ((u : Txn) → test u ≡ true → marked s.ended.items u ≡ false) →
-      filter (λ n. is_start test n.entry) s.log.items ≡ filter (λ n. is_start test n.entry) r.log.items
+      filter (λ x. test x.txn) s.log.items ≡ filter (λ x. test x.txn) r.log.items

@@ -1,17 +1,17 @@
-ghost use Rattle.std.specs.Prelude.{◌≡◌, ◌==◌, ℕ, ◌<◌, not, Bool, true, false, List, [], ◌∷◌, ◌++◌, filter, count_by, length, vec_len, vec_capacity, IfOk, OnOk, slice_index};
+ghost use Rattle.std.specs.Prelude.{◌≡◌, ◌==◌, ℕ, ◌<◌, not, Bool, true, false, List, [], ◌∷◌, ◌++◌, map, filter, count_by, length, vec_len, vec_capacity, IfOk, OnOk, slice_index};
 ghost use Rattle.raid_base.specs.declared.names.Txn.{Txn};
 ghost use Rattle.raid_base.specs.Names.{is_txn};
 ghost use Rattle.raid_base.specs.declared.entry.Entry.TheVariants as entries;
 ghost use Rattle.raid_base.specs.declared.entry.Noted.{Noted};
 ghost use Rattle.raid_rules.specs.Entries.{is_read};
 ghost use Rattle.raid_rules.specs.History.{has_ended, stamp as stamp_in};
-ghost use Rattle.raid_control.specs.Carried.{carried, is_start};
+ghost use Rattle.raid_control.specs.Carried.{carried};
 ghost use Rattle.raid_tables.specs.Rows.{row_of, HasRoom};
-ghost use Rattle.raid_tables.specs.Running.{marked, KnowsRunning, HasRunningRoom, Ends};
+ghost use Rattle.raid_tables.specs.Running.{marked, entry_of, noted_of, KnowsRunning, HasRunningRoom, Ends};
 
 use crate::places::{at, grow};
-use crate::rows::{push_in, reserve_in, row};
-use raid_base::{Duplicate, Entry, Item, NoMemory, Noted, Site, Txn};
+use crate::rows::{push_in, reserve_from, row, spare_row};
+use raid_base::{Entry, Item, NoMemory, Noted, Site, Txn};
 use raid_control::Carry;
 use std::alloc::Global;
 
@@ -20,6 +20,22 @@ use std::alloc::Global;
 pub struct Seen {
     pub item: Item,
     pub number: u32,
+}
+
+/// What a start is: a Begin at a home, or a Read of an item at a site.
+#[derive(Clone, Copy, Debug)]
+pub enum Started {
+    Begin(Site),
+    Read(Item, Site),
+}
+
+/// A Begin or a Read, with its number and its transaction's stamp. It is small, where an [`Entry`] has room for the largest one.
+#[derive(Clone, Copy, Debug)]
+pub struct Start {
+    pub number: u32,
+    pub stamp: u32,
+    pub txn: Txn,
+    pub what: Started,
 }
 
 /// What the transactions that haven't ended have done: the items that each has read, and its Begin; and for all transactions whether
@@ -33,7 +49,8 @@ pub struct Running {
     ended: Vec<bool>,
     begins: Vec<u32>,
     reads: Vec<Vec<Seen>>,
-    log: Vec<Noted>,
+    spare: Vec<Vec<Seen>>,
+    log: Vec<Start>,
     stale: usize,
 }
 
@@ -44,81 +61,93 @@ fn is_marked(ended: &[bool], txn: Txn) -> bool
     at(ended, txn.0 as usize, false)
 }
 
-/// Whether the entry is a Begin or a Read of a transaction without a flag.
-fn is_live(ended: &[bool], entry: &Entry) -> bool
-    ensures { result ≡ is_start (λ t. not (marked ended.now t)) entry.now }
+/// Whether the start is of a transaction without a flag.
+fn is_live(ended: &[bool], start: &Start) -> bool
+    ensures { result ≡ not (marked ended.now start.now.txn) }
 {
-    match entry {
-        Entry::Begin { txn, .. } | Entry::Read { txn, .. } => !is_marked(ended, *txn),
-        _ => false,
+    !is_marked(ended, start.txn)
+}
+
+/// Whether the start is a Read of a transaction without a flag.
+fn is_live_read(ended: &[bool], start: &Start) -> bool
+    ensures { result ≡ is_read (λ t x s. not (marked ended.now t)) (entry_of start.now.txn start.now.what) }
+{
+    match start.what {
+        Started::Begin(_) => false,
+        Started::Read(..) => is_live(ended, start),
     }
 }
 
-/// Whether the entry is a Read of a transaction without a flag.
-fn is_live_read(ended: &[bool], entry: &Entry) -> bool
-    ensures { result ≡ is_read (λ t x s. not (marked ended.now t)) entry.now }
+/// The entry of a start.
+fn entry(txn: Txn, what: Started) -> Entry
+    ensures { result ≡ entry_of txn what }
 {
-    match entry {
-        Entry::Read { txn, .. } => !is_marked(ended, *txn),
-        _ => false,
+    match what {
+        Started::Begin(home) => Entry::Begin { txn, home },
+        Started::Read(item, site) => Entry::Read { txn, item, site },
     }
 }
 
-/// Takes out of the log all but the Begins and Reads of transactions without a flag.
-fn drop_stale(log: &mut Vec<Noted>, ended: &[bool])
-    ensures { log.new.items ≡ filter (λ n. is_start (λ t. not (marked ended.now t)) n.entry) log.old.items }
+/// The start as it is carried.
+fn noted(start: Start) -> Noted
+    ensures { result ≡ noted_of start }
 {
-    log.retain(|n| is_live(ended, &n.entry));
+    Noted {
+        at: start.number,
+        stamp: start.stamp,
+        entry: entry(start.txn, start.what),
+    }
 }
 
-/// Copies the Begins and Reads of transactions without a flag.
-fn copy_live(alloc: Global, log: &[Noted], ended: &[bool]) -> Result<Carry, NoMemory>
-    ensures { IfOk result (λ c. c ≡ filter (λ n. is_start (λ t. not (marked ended.now t)) n.entry) log.now) }
+/// Takes out of the log all but the starts of transactions without a flag.
+fn drop_stale(log: &mut Vec<Start>, ended: &[bool])
+    ensures { log.new.items ≡ filter (λ s. not (marked ended.now s.txn)) log.old.items }
+{
+    log.retain(|start| is_live(ended, start));
+}
+
+/// Carries the starts of transactions without a flag.
+fn carry_live(alloc: Global, log: &[Start], ended: &[bool]) -> Result<Carry, NoMemory>
+    ensures { IfOk result (λ c. c ≡ map noted_of (filter (λ s. not (marked ended.now s.txn)) log.now)) }
 {
     let mut carry = Carry::new(alloc);
-    for noted in log {
-        if is_live(ended, &noted.entry) {
-            let entry = noted.entry.copy(alloc)?;
-            carry.push(Noted {
-                at: noted.at,
-                stamp: noted.stamp,
-                entry,
-            })?;
+    for start in log {
+        if is_live(ended, start) {
+            carry.push(noted(*start))?;
         }
     }
     Ok(carry)
 }
 
 /// How many of the Reads are of transactions without a flag.
-fn count_live_reads(log: &[Noted], ended: &[bool]) -> usize
-    ensures { result ≡ count_by (λ n. is_read (λ t x s. not (marked ended.now t)) n.entry) log.now }
+fn count_live_reads(log: &[Start], ended: &[bool]) -> usize
+    ensures { result ≡ count_by (λ s. is_read (λ t x site. not (marked ended.now t)) (entry_of s.txn s.what)) log.now }
 {
     let mut count = 0;
-    for noted in log {
-        if is_live_read(ended, &noted.entry) {
+    for start in log {
+        if is_live_read(ended, start) {
             count += 1;
         }
     }
     count
 }
 
-/// Takes out the Reads of a transaction that ends, and gives their memory back. It answers how many there were.
-fn forget(alloc: Global, reads: &mut Vec<Vec<Seen>>, txn: Txn) -> usize
+/// Takes out the Reads of a transaction that ends, and keeps their memory for another where there is room for it. It answers how many
+/// there were.
+fn forget(alloc: Global, reads: &mut Vec<Vec<Seen>>, spare: &mut Vec<Vec<Seen>>, txn: Txn) -> usize
     ensures { (u : Txn) → is_txn txn u ≡ false → row_of reads.new.items u.0 ≡ row_of reads.old.items u.0 }
 {
     let place = txn.0 as usize;
     if reads.len() <= place {
         return 0;
     }
-    let count = reads[place].len();
-    reads[place] = Vec::new(alloc);
-    count
+    spare_row(alloc, reads, spare, place)
 }
 
-/// Thins out the log where its larger part is stale, and answers how many stale entries are left there at most. It stays what it was for
+/// Thins out the log where its larger part is stale, and answers how many stale starts are left there at most. It stays what it was for
 /// transactions without a flag.
-fn thin_out(log: &mut Vec<Noted>, ended: &[bool], stale: usize) -> usize
-    ensures { (test : Txn → Bool) → ((t : Txn) → test t ≡ true → marked ended.now t ≡ false) → filter (λ n. is_start test n.entry) log.new.items ≡ filter (λ n. is_start test n.entry) log.old.items }
+fn thin_out(log: &mut Vec<Start>, ended: &[bool], stale: usize) -> usize
+    ensures { (test : Txn → Bool) → ((t : Txn) → test t ≡ true → marked ended.now t ≡ false) → filter (λ s. test s.txn) log.new.items ≡ filter (λ s. test s.txn) log.old.items }
 {
     if stale <= log.len() / 2 {
         return stale;
@@ -141,6 +170,7 @@ impl Running {
             ended,
             begins,
             reads,
+            spare: Vec::new(alloc),
             log: Vec::new(alloc),
             stale: 0,
         })
@@ -172,7 +202,7 @@ impl Running {
     pub fn carry(&self, alloc: Global) -> Result<Carry, NoMemory>
         ensures { IfOk result (λ c. (view : List Noted) → KnowsRunning self.now view → c ≡ carried view) }
     {
-        copy_live(alloc, self.log.as_slice(), self.ended.as_slice())
+        carry_live(alloc, self.log.as_slice(), self.ended.as_slice())
     }
 
     /// How many Reads there are of transactions that haven't ended.
@@ -195,7 +225,7 @@ impl Running {
         ensures ok { OnOk result (HasRoom self.new.reads.items txn.0 × (vec_len self.new.log < vec_capacity self.new.log)) }
         ensures same { (view : List Noted) → KnowsRunning self.old view → KnowsRunning self.new view }
     {
-        reserve_in(self.alloc, &mut self.reads, txn.0 as usize)?;
+        reserve_from(self.alloc, &mut self.reads, &mut self.spare, txn.0 as usize)?;
         self.log.reserve(1)?;
         Ok(())
     }
@@ -204,7 +234,9 @@ impl Running {
         ensures ok { OnOk result (txn.0 < vec_len self.new.ended) }
         ensures same { (view : List Noted) → KnowsRunning self.old view → KnowsRunning self.new view }
     {
-        grow(&mut self.ended, txn.0 as usize, false)
+        grow(&mut self.ended, txn.0 as usize, false)?;
+        self.spare.reserve(1)?;
+        Ok(())
     }
 
     /// Takes the memory for noting the entry. No answer changes, also after want of memory.
@@ -232,10 +264,11 @@ impl Running {
         ensures { (view : List Noted) → KnowsRunning self.old view → KnowsRunning self.new (view ++ record { at = number; stamp = stamp; entry = entries.Begin txn home } ∷ []) }
     {
         self.begins[txn.0 as usize] = number;
-        self.log.push_reserved(Noted {
-            at: number,
+        self.log.push_reserved(Start {
+            number,
             stamp,
-            entry: Entry::Begin { txn, home },
+            txn,
+            what: Started::Begin(home),
         });
     }
 
@@ -245,10 +278,11 @@ impl Running {
         ensures { (view : List Noted) → KnowsRunning self.old view → KnowsRunning self.new (view ++ record { at = number; stamp = stamp; entry = entries.Read txn item site } ∷ []) }
     {
         push_in(&mut self.reads, txn.0 as usize, Seen { item, number });
-        self.log.push_reserved(Noted {
-            at: number,
+        self.log.push_reserved(Start {
+            number,
             stamp,
-            entry: Entry::Read { txn, item, site },
+            txn,
+            what: Started::Read(item, site),
         });
     }
 
@@ -257,7 +291,7 @@ impl Running {
         ensures { Ends self.old self.new txn }
     {
         self.ended[txn.0 as usize] = true;
-        let count = forget(self.alloc, &mut self.reads, txn);
+        let count = forget(self.alloc, &mut self.reads, &mut self.spare, txn);
         let stale = self.stale.saturating_add(count).saturating_add(1);
         self.stale = thin_out(&mut self.log, &self.ended, stale);
     }
@@ -289,6 +323,7 @@ impl Running {
         self.ended.clear();
         self.begins.clear();
         self.reads.clear();
+        self.spare.clear();
         self.log.clear();
         self.stale = 0;
     }
