@@ -13,7 +13,7 @@ import tempfile
 from measuring import peak_memory
 
 LONG = (50_000, 100_000, 200_000, 400_000)
-SHORT = (5_000, 10_000, 20_000)
+GRAPH = (5_000, 20_000, 100_000, 400_000)
 KINDS = ("lock", "stamp", "valid", "graph")
 # Nanoseconds of a verdict with its note that a plain body took.
 PLAIN = {"lock native": 15, "stamp native": 9, "valid native": 12, "graph native": 21}
@@ -64,7 +64,7 @@ def main() -> None:
     flat = [f"{kind} {structure}" for structure in ("native", "generic") for kind in KINDS if kind != "graph"]
     table(program, [*flat, "entries alone"], LONG, runs, empty)
     print()
-    table(program, ["graph native", "graph generic"], SHORT, runs, empty)
+    table(program, ["graph native", "graph generic", "entries alone"], GRAPH, runs, empty)
 
 
 if __name__ == "__main__":
