@@ -42,7 +42,7 @@ pub struct Start {
 /// they have ended.
 ///
 /// The Begins and Reads also stand in a log, in order. Those of ended transactions are taken out once they are the larger part of it,
-/// so that an entry costs the same however long the history is. The rows of ended transactions lie spare until others take their memory.
+/// so that an entry costs the same however long the history is.
 #[derive(Drop, Debug)]
 pub struct Running {
     alloc: Global,
