@@ -1,0 +1,4 @@
+pub mod Events
+pub mod Ledger
+pub mod Mail
+pub mod Site
