@@ -141,3 +141,9 @@ orders_sent stop k session clock (e ∷ es) = ap (λ b. orders stop (if b then m
         ∙ ap (λ b. cond (b && (if e.stop then stop else not stop)) 1 0 + of_site stop (site (k + 1)) es) (sym here) ∙ sym (of_cons stop (site (k + 1)) e es)
     go false here q =
         q ∙ skip (of_site stop (site (k + 1)) es) ∙ ap (λ b. cond (b && (if e.stop then stop else not stop)) 1 0 + of_site stop (site (k + 1)) es) (sym here) ∙ sym (of_cons stop (site (k + 1)) e es)
+
+pub orders_cons : (stop : Bool) (l : Letter) (ls : List Letter) → orders stop (l ∷ ls) ≡ cond (is_order_of stop l.message) 1 0 + orders stop ls
+orders_cons stop l ls = sum_by-cons (λ (l : Letter). cond (is_order_of stop l.message) 1 0) l ls
+
+pub of_append : (stop : Bool) (s : Site) (es fs : List Event) → of_site stop s (es ++ fs) ≡ of_site stop s es + of_site stop s fs
+of_append stop s es fs = sum_by-append (λ (e : Event). cond (is_event stop s e) 1 0) es fs

@@ -61,17 +61,17 @@ account_is : {a b c d i j k l : ℕ} → i ≡ a → j ≡ b → k ≡ c → l �
 account_is {a} {b} {c} {d} {i} {j} {k} {l} q r s t account =
     subst (λ z. Account z j k l) (sym q) (subst (λ z. Account a z k l) (sym r) (subst (λ z. Account a b z l) (sym s) (subst (λ z. Account a b c z) (sym t) account)))
 
+-- neither a Down nor an Up
+abbrev pub is_still : Entry → Bool
+is_still (Down s) = false
+is_still (Up s session) = false
+is_still other = true
+
 module _ (w : Workload) where
   account_push : (p : List Noted) (n : Noted) (s : Site) →
       Account (session (turn_vector (vector w p) n.entry) s) (turn_last s (last_session p s) n.entry) (downs p s + cond (is_down (is_site s) n.entry) 1 0) (ups p s + cond (is_up_entry (is_site s) n.entry) 1 0) →
       AccountAt w (p ++ n ∷ []) s
   account_push p n s account = account_is (ap (λ v. session v s) (vector_push w.sites p n)) (last_push p n s) (downs_push p n s) (ups_push p n s) account
-
-  -- neither a Down nor an Up
-  abbrev pub is_still : Entry → Bool
-  is_still (Down s) = false
-  is_still (Up s session) = false
-  is_still other = true
 
   plus_none : (n : ℕ) → n + 0 ≡ n
   plus_none n = omega arith
@@ -204,6 +204,15 @@ module _ (w : Workload) where
           (renewed (session (vector w (noted h)) s) (last_session (noted h) s) (downs (noted h) s) (ups (noted h) s) follows (l.accounts s known) down))
       go r known_too false differ =
           account_is (session_other (vector w (noted h)) s r n known known_too differ) (ap (λ b. if b then n else last_session (noted h) r) differ) (plus_none (downs (noted h) r)) (ap (λ b. ups (noted h) r + cond b 1 0) differ ∙ plus_none (ups (noted h) r)) (l.accounts r known_too)
+
+  -- and then the site is up
+  pub up_risen : (h : List Entry) (s : Site) (n : ℕ) → Ledger w h → knows_site w s ≡ true → 1 ≤ n → is_up w (noted (h ++ Up s n ∷ [])) s ≡ true
+  up_risen h s n l known some =
+      ap (λ p. is_up w p s) (noted_push h (Up s n)) ∙ ap (λ v. nat_lt 0 (session v s)) (vector_push w.sites (noted h) (next (noted h) (Up s n)))
+      ∙ ap (nat_lt 0) (session_same (vector w (noted h)) s s n l.long known (same s.0)) ∙ below 0 n (omega (arith, some))
+    where
+      same : (k : ℕ) → (k == k) ≡ true
+      same k = grind arith
 
   -- what becomes of a site's last session
   pub last_still : (h : List Entry) (e : Entry) (s : Site) → is_still e ≡ true → last_session (noted (h ++ e ∷ [])) s ≡ last_session (noted h) s

@@ -1,4 +1,6 @@
 pub mod Events
+pub mod Heard
 pub mod Ledger
 pub mod Mail
+pub mod Sessions
 pub mod Site

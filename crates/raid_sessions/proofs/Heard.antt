@@ -1,0 +1,364 @@
+-- The sequencer's step: where the letters that it hears tell the truth of stops and returns, the entries that it places are due.
+use Rattle.std.proofs.Common.{◌≡◌, ℕ, ℤ, zero, suc, ◌+◌, ◌-◌, ◌<◌, ◌≤◌, ◌==◌, nat_lt, nat_le, Bool, true, false, not, ◌&&◌, ◌||◌, List, [], ◌∷◌, ◌++◌, length, map, Option, Some, None, if◌then◌else◌, arith, sym, subst, ap, ◌∙◌, refl}
+use Rattle.std.specs.Prelude.{⊤, max, filter, flat_map, slice_index, slice_set}
+use Rattle.std.specs.List.{AllByRecursion, list_all}
+use Rattle.std.specs.Option.{option_map_or}
+use Rattle.std.proofs.lemmas.Bool.{and_parts, and_from, eqb-true, true≢false}
+use Rattle.raid_base.specs.declared.names.Txn.{Txn}
+use Rattle.raid_base.specs.declared.names.Item.{Item}
+use Rattle.raid_base.specs.declared.names.Site.{Site}
+use Rattle.raid_base.specs.declared.request.Request.{Request}
+use Rattle.raid_base.specs.declared.entry.Act.TheVariants as acts
+use Rattle.raid_base.specs.declared.entry.Cause.{Cause}
+use Rattle.raid_base.specs.declared.entry.Cause.TheVariants as causes
+use Rattle.raid_base.specs.declared.entry.Entry.{Entry}
+use Rattle.raid_base.specs.declared.entry.Entry.TheVariants.{Begin, Read, Wait, Commit, Abort, Ack, SwitchOn, SwitchEnd, Down, Up, Clear}
+use Rattle.raid_base.specs.declared.entry.Noted.{Noted}
+use Rattle.raid_base.specs.declared.verdict.Verdict.{Verdict}
+use Rattle.raid_base.specs.declared.verdict.Verdict.TheVariants as verdicts
+use Rattle.raid_base.specs.Names.{is_site, has_site}
+use Rattle.raid_base.specs.Sites.{session, site}
+use Rattle.raid_workload.specs.declared.workload.Workload.{Workload}
+use Rattle.raid_workload.specs.Parts.{sites, home}
+use Rattle.raid_rules.specs.History.{noted, ends, stamp, is_waiting, version}
+use Rattle.raid_rules.specs.Sessions.{source_for, owes, last_session}
+use Rattle.raid_rules.specs.Verdicts.{reading, writing}
+use Rattle.raid_legal.specs.Seen.{vector, is_up, is_locked, sources}
+use Rattle.raid_legal.specs.InForce.{verdict}
+use Rattle.raid_legal.specs.Answers.{served, answer_read, answer_commit, answered, decided, closes_waits, site_refusal}
+use Rattle.raid_legal.specs.Forced.{forced}
+use Rattle.raid_legal.specs.Legal.{is_free, may_begin}
+use Rattle.raid_legal.proofs.Left.{Compels, forced_compels}
+use Rattle.raid_message.specs.declared.letter.Message.{Message}
+use Rattle.raid_message.specs.declared.letter.Message.TheVariants as letters
+use Rattle.raid_message.specs.declared.letter.Letter.{Letter}
+use Rattle.raid_steps.specs.State.{Out, Turn, Sequencer, Copying, opened, to_site}
+use Rattle.raid_steps.specs.Fits.{knows_site, is_to_sequencer}
+use Rattle.raid_steps.specs.Table.{is_count}
+use Rattle.raid_steps.specs.Sequencer as rows
+use Rattle.raid_steps.specs.Sequencer.{so_far, place, place_if, settle_from, settle, finish}
+use Rattle.raid_steps.proofs.Parts.{all_appended}
+use Rattle.raid_placed.proofs.Heard.{Fine, leave_fine, sent_placed, settled_still}
+use Rattle.raid_placed.proofs.Settled.{settle_settles}
+use Rattle.raid_sessions.specs.Due.{IsDue}
+use Rattle.raid_sessions.proofs.Events.{due_of, due_grows}
+use Rattle.raid_sessions.proofs.Ledger.{Ledger, is_still, still_push, down_push, up_push, up_last, up_risen, last_still, last_down, last_up, ends_grow}
+
+-- no count of ends is sent
+abbrev pub is_silent : Out → Bool
+is_silent out = not (is_count out.2)
+
+-- what a count of ends may say: no more than there are
+abbrev pub IsFair : ℕ → Message → Type 0
+IsFair n (letters.Ends count) = count ≤ n
+IsFair n other = ⊤
+
+abbrev pub AreFair : ℕ → List Out → Type 0
+AreFair n outs = AllByRecursion (λ (out : Out). IsFair n out.2) outs
+
+silent_fair : (n : ℕ) (m : Message) → is_count m ≡ false → IsFair n m
+silent_fair n (letters.Ends count) q = absurd (true≢false q)
+silent_fair n other q = tt
+
+not_false : (b : Bool) → not b ≡ true → b ≡ false
+not_false true q = absurd (true≢false (sym q))
+not_false false q = refl
+
+all_fair : (n : ℕ) (outs : List Out) → list_all is_silent outs ≡ true → AreFair n outs
+all_fair n [] q = tt
+all_fair n (out ∷ outs) q = (let parts = and_parts (is_silent out) (list_all is_silent outs) q in (silent_fair n out.2 (not_false (is_count out.2) parts.0), all_fair n outs parts.1))
+
+fair_append : (n : ℕ) (a b : List Out) → AreFair n a → AreFair n b → AreFair n (a ++ b)
+fair_append n [] b f g = g
+fair_append n (out ∷ a) b f g = (f.0, fair_append n a b f.1 g)
+
+-- an entry that no site's stop or return, and no renewed copy, is told by
+abbrev IsCalm : Entry → Type 0
+IsCalm (Down s) = ⊥
+IsCalm (Up s n) = ⊥
+IsCalm (Clear s x v) = ⊥
+IsCalm other = ⊤
+
+calm_still : (e : Entry) → IsCalm e → is_still e ≡ true
+calm_still (Down s) c = absurd c
+calm_still (Up s n) c = absurd c
+calm_still (Clear s x v) c = absurd c
+calm_still other c = refl
+
+-- a turn: its history is due so far; L has each site's last session, at least so many transactions have ended, and these sessions' ends were
+-- announced
+pub record Stands (w : Workload) (L : Site → ℕ) (n : ℕ) (a : List ℕ) (turn : Turn Sequencer) : Type 0 where
+  pub ledger : Ledger w turn.state.history
+  pub lasts : (s : Site) → last_session (so_far turn) s ≡ L s
+  pub counted : n ≤ ends (so_far turn)
+  pub announced : turn.state.announced ≡ a
+  pub silent : list_all is_silent turn.outs ≡ true
+
+-- the same after the whole step
+pub record Told (w : Workload) (L : Site → ℕ) (n : ℕ) (a : List ℕ) (turn : Turn Sequencer) : Type 0 where
+  pub ledger : Ledger w turn.state.history
+  pub lasts : (s : Site) → last_session (so_far turn) s ≡ L s
+  pub counted : n ≤ ends (so_far turn)
+  pub announced : turn.state.announced ≡ a
+  pub fair : AreFair (ends (so_far turn)) turn.outs
+
+module _ (w : Workload) where
+  calm_due : (p : List Noted) (e : Entry) → IsCalm e → IsDue w p e
+  calm_due p (Down s) c = absurd c
+  calm_due p (Up s n) c = absurd c
+  calm_due p (Clear s x v) c = absurd c
+  calm_due p other c = tt
+
+  -- no entry sends a count of ends
+  notes_silent : (v : List ℕ) (m : Message) (ss : List Site) → is_count m ≡ false → list_all is_silent (map (λ s. to_site v s m) ss) ≡ true
+  notes_silent v m [] q = refl
+  notes_silent v m (s ∷ ss) q = and_from (not (is_count m)) (list_all is_silent (map (λ s. to_site v s m) ss)) (ap not q) (notes_silent v m ss q)
+
+  one_if : (b : Bool) (out : Out) → is_silent out ≡ true → list_all is_silent (if b then out ∷ [] else []) ≡ true
+  one_if true out q = and_from (is_silent out) true q refl
+  one_if false out q = refl
+
+  none_if : (b : Bool) (out : Out) → is_silent out ≡ true → list_all is_silent (if b then [] else out ∷ []) ≡ true
+  none_if true out q = refl
+  none_if false out q = and_from (is_silent out) true q refl
+
+  commits_silent : (p : List Noted) (t : Txn) (applied : List Site) (ss : List Site) → list_all is_silent (flat_map (rows.commit_sends w p t applied) ss) ≡ true
+  commits_silent p t applied [] = refl
+  commits_silent p t applied (s ∷ ss) =
+      let v = vector w p in
+      let apply : Out = to_site v s (letters.Apply t (length p)) in
+      let done : Out = to_site v s (letters.Done t) in
+      all_appended is_silent (rows.commit_sends w p t applied s) (flat_map (rows.commit_sends w p t applied) ss)
+      (all_appended is_silent (if has_site applied s then apply ∷ [] else []) (if is_site s (home w t) && is_up w p s then done ∷ [] else []) (one_if (has_site applied s) apply refl) (one_if (is_site s (home w t) && is_up w p s) done refl))
+      (commits_silent p t applied ss)
+
+  sends_silent : (p : List Noted) (ask : ℕ) (e : Entry) → list_all is_silent (rows.sends w p ask e) ≡ true
+  sends_silent p ask (Read t x s) = none_if (is_site s (home w t)) (to_site (vector w p) (home w t) (letters.Serving t ask s)) refl
+  sends_silent p ask (Commit t request applied) = commits_silent p t applied (sites w)
+  sends_silent p ask (Abort t cause act) = notes_silent (vector w p) (rows.drop_of w t cause) (filter (is_up w p) (sites w)) refl
+  sends_silent p ask (Down s) = notes_silent (vector w p) (letters.DownNote s) (filter (is_up w p) (sites w)) refl
+  sends_silent p ask (Up s n) = notes_silent (vector w p) (letters.UpNote s n) (filter (λ r. is_up w p r && not (is_site s r)) (sites w)) refl
+  sends_silent p ask other = refl
+
+  copies_silent : (v : List ℕ) (due : List Copying) → list_all is_silent (map (rows.copy_out v) due) ≡ true
+  copies_silent v [] = refl
+  copies_silent v (c ∷ due) = copies_silent v due
+
+  placed_silent : (ask : ℕ) (turn : Turn Sequencer) (e : Entry) → list_all is_silent turn.outs ≡ true → list_all is_silent (place w ask turn e).outs ≡ true
+  placed_silent ask turn e q = all_appended is_silent turn.outs (rows.sends w (noted (turn.state.history ++ e ∷ [])) ask e) q (sends_silent (noted (turn.state.history ++ e ∷ [])) ask e)
+
+  -- placing an entry
+  module _ (L : Site → ℕ) (n : ℕ) (a : List ℕ) where
+    abbrev Kept : Turn Sequencer → Type 0
+    Kept turn = Stands w L n a turn
+
+    later : (turn : Turn Sequencer) (e : Entry) → n ≤ ends (so_far turn) → n ≤ ends (noted (turn.state.history ++ e ∷ []))
+    later turn e le = (let more = ends_grow w turn.state.history e in omega (arith, le, more))
+
+    still_stands : (ask : ℕ) (turn : Turn Sequencer) (e : Entry) → Kept turn → is_still e ≡ true → IsDue w (so_far turn) e → Kept (place w ask turn e)
+    still_stands ask turn e k q d = record {
+      ledger = still_push w turn.state.history e k.ledger q d;
+      lasts = λ s. last_still w turn.state.history e s q ∙ k.lasts s;
+      counted = later turn e k.counted;
+      announced = k.announced;
+      silent = placed_silent ask turn e k.silent;
+    }
+
+    calm_stands : (ask : ℕ) (turn : Turn Sequencer) (e : Entry) → Kept turn → IsCalm e → Kept (place w ask turn e)
+    calm_stands ask turn e k c = still_stands ask turn e k (calm_still e c) (calm_due (so_far turn) e c)
+
+    down_stands : (turn : Turn Sequencer) (s : Site) → Kept turn → knows_site w s ≡ true → is_up w (so_far turn) s ≡ true → L s ≤ due_of n true s w.events → Kept (place w 0 turn (Down s))
+    down_stands turn s k known up enough = record {
+      ledger = down_push w turn.state.history s k.ledger known up (let room = due_grows w.events n (ends (so_far turn)) true s k.counted in let last = k.lasts s in omega (arith, room, last, enough));
+      lasts = λ r. last_down w turn.state.history s r ∙ k.lasts r;
+      counted = later turn (Down s) k.counted;
+      announced = k.announced;
+      silent = placed_silent 0 turn (Down s) k.silent;
+    }
+
+    -- settling
+    compelled_calm : (p : List Noted) (e : Entry) → Compels w p e → IsCalm e
+    compelled_calm p (Abort t cause act) c = tt
+    compelled_calm p (Commit t request applied) c = tt
+    compelled_calm p (SwitchOn k kind method) c = tt
+    compelled_calm p (SwitchEnd k) c = tt
+    compelled_calm p other c = absurd c
+
+    settle_from_stands : (i : ℕ) (turn : Turn Sequencer) → Kept turn → Kept (settle_from w i turn)
+    settle_from_stands zero turn k = k
+    settle_from_stands (suc i) turn k = go (forced w (so_far turn)) refl (λ e. settle_from_stands i (place w 0 turn e))
+      where
+        go : (o : Option Entry) → forced w (so_far turn) ≡ o → ((e : Entry) → Kept (place w 0 turn e) → Kept (settle_from w i (place w 0 turn e))) → Kept (option_map_or (λ e. settle_from w i (place w 0 turn e)) o turn)
+        go None q rest = k
+        go (Some e) q rest = rest e (calm_stands 0 turn e k (compelled_calm (so_far turn) e (forced_compels w (so_far turn) e q)))
+
+    settle_stands : (turn : Turn Sequencer) → Kept turn → Kept (settle w turn)
+    settle_stands turn k = settle_from_stands _ turn k
+
+    -- the end of the step
+    finish_told : (state : Sequencer) (turn : Turn Sequencer) → Kept turn → Told w L n a (finish w state turn)
+    finish_told state turn k = go (settle w turn) (settle_stands turn k)
+      where
+        go : (turn : Turn Sequencer) → Kept turn → Told w L n a (rows.send_ends (ends (noted state.history)) (rows.send_copies w turn))
+        go turn k = record {
+          ledger = k.ledger;
+          lasts = k.lasts;
+          counted = k.counted;
+          announced = k.announced;
+          fair = fair_append now (turn.outs ++ map (rows.copy_out (vector w (so_far turn))) due) (if nat_lt (ends (noted state.history)) now then (0, 0, letters.Ends now) ∷ [] else [])
+              (all_fair now (turn.outs ++ map (rows.copy_out (vector w (so_far turn))) due) (all_appended is_silent turn.outs (map (rows.copy_out (vector w (so_far turn))) due) k.silent (copies_silent (vector w (so_far turn)) due)))
+              (one (nat_lt (ends (noted state.history)) now));
+        } where
+          now : ℕ
+          now = ends (so_far turn)
+
+          due : List Copying
+          due = flat_map (rows.copies_due w (so_far turn) turn.state.copying) (filter (is_up w (so_far turn)) (sites w))
+
+          one : (b : Bool) → AreFair (ends (so_far turn)) (let outs : List Out = (if b then (0, 0, letters.Ends (ends (so_far turn))) ∷ [] else []) in outs)
+          one true = (omega arith, tt)
+          one false = tt
+
+    -- the rows
+    abbrev OptCalm : Option Entry → Type 0
+    OptCalm None = ⊤
+    OptCalm (Some e) = IsCalm e
+
+    place_if_stands : (ask : ℕ) (turn : Turn Sequencer) (o : Option Entry) → Kept turn → OptCalm o → Kept (place_if w ask turn o)
+    place_if_stands ask turn None k c = k
+    place_if_stands ask turn (Some e) k c = calm_stands ask turn e k c
+
+    calm_if : (b : Bool) (e : Entry) → IsCalm e → OptCalm (if b then Some e else None)
+    calm_if true e c = c
+    calm_if false e c = tt
+
+    either : (b : Bool) (x y : Turn Sequencer) → Kept x → Kept y → Kept (if b then x else y)
+    either true x y k l = k
+    either false x y k l = l
+
+    free_stands : (ask : ℕ) (turn : Turn Sequencer) (t : Txn) (o : Option Entry) → Kept turn → OptCalm o → Kept (rows.free_row w ask turn t o)
+    free_stands ask turn t o k c = either (is_free (so_far turn) t) (place_if w ask turn o) turn (place_if_stands ask turn o k c) k
+
+    served_calm : (t : Txn) (x : Item) (o : Option Site) (v : Verdict) → IsCalm (served t x o v)
+    served_calm t x None v = tt
+    served_calm t x (Some s) (verdicts.Reject why) = tt
+    served_calm t x (Some s) verdicts.Wait = tt
+    served_calm t x (Some s) verdicts.Grant = tt
+
+    read_calm : (p : List Noted) (t : Txn) (x : Item) → IsCalm (answer_read w p t x)
+    read_calm p t x = served_calm t x (source_for (sources w p x) (home w t)) (verdict w p (reading t (stamp p t) x))
+
+    waits_calm : (t : Txn) (request : Request) (b c : Bool) → OptCalm (if b then None else if c then Some (Abort t causes.Deadlock (acts.Commit request)) else Some (Wait t request))
+    waits_calm t request true c = tt
+    waits_calm t request false true = tt
+    waits_calm t request false false = tt
+
+    decided_calm : (p : List Noted) (t : Txn) (request : Request) (v : Verdict) → OptCalm (decided w p t request v)
+    decided_calm p t request (verdicts.Reject why) = tt
+    decided_calm p t request verdicts.Grant = tt
+    decided_calm p t request verdicts.Wait = waits_calm t request (is_waiting p t) (closes_waits w p t request)
+
+    answered_calm : (p : List Noted) (t : Txn) (request : Request) (o : Option Cause) → OptCalm (answered w p t request o)
+    answered_calm p t request (Some why) = tt
+    answered_calm p t request None = decided_calm p t request (verdict w p (writing t (stamp p t) request.writes))
+
+    commit_calm : (p : List Noted) (t : Txn) (request : Request) → OptCalm (answer_commit w p t request)
+    commit_calm p t request = answered_calm p t request (site_refusal w p request)
+
+    -- a copy is renewed where its site is up
+    copied_stands : (turn : Turn Sequencer) (s : Site) (x : Item) (v : ℕ) → Kept turn → is_up w (so_far turn) s ≡ true → Kept (rows.copied_row w turn s x v)
+    copied_stands turn s x v k up = closed (place_if w 0 turn (if is_locked w (so_far turn) s x && v == version (so_far turn) x then Some (Clear s x v) else None)) (go (is_locked w (so_far turn) s x && v == version (so_far turn) x) refl)
+      where
+        closed : (turn : Turn Sequencer) → Kept turn → Kept (rows.close turn s x)
+        closed turn k = record { ledger = k.ledger; lasts = k.lasts; counted = k.counted; announced = k.announced; silent = k.silent }
+
+        go : (b : Bool) → (is_locked w (so_far turn) s x && v == version (so_far turn) x) ≡ b → Kept (place_if w 0 turn (if b then Some (Clear s x v) else None))
+        go true q =
+            let parts = and_parts (is_locked w (so_far turn) s x) (v == version (so_far turn) x) q in
+            still_stands 0 turn (Clear s x v) k refl (and_from (is_up w (so_far turn) s && is_locked w (so_far turn) s x) (v == version (so_far turn) x) (and_from (is_up w (so_far turn) s) (is_locked w (so_far turn) s x) up parts.0) parts.1)
+        go false q = k
+
+    -- what a site asks or tells, but for a Hello
+    row_stands : (turn : Turn Sequencer) (s : Site) (i : ℕ) (m : Message) → Kept turn → rows.is_hello m ≡ false → is_up w (so_far turn) s ≡ true → Kept (rows.site_row w turn s i m)
+    row_stands turn s i letters.Hello k q up = absurd (true≢false q)
+    row_stands turn s i (letters.Begin t) k q up = place_if_stands 0 turn (if may_begin w (so_far turn) t then Some (Begin t (home w t)) else None) k (calm_if (may_begin w (so_far turn) t) (Begin t (home w t)) tt)
+    row_stands turn s i (letters.ReadAsk t ask x) k q up = free_stands ask turn t (Some (answer_read w (so_far turn) t x)) k (read_calm (so_far turn) t x)
+    row_stands turn s i (letters.CommitAsk t request) k q up = free_stands 0 turn t (answer_commit w (so_far turn) t request) k (commit_calm (so_far turn) t request)
+    row_stands turn s i (letters.EndAsk t cause reads) k q up = free_stands 0 turn t (Some (Abort t cause (acts.Ended reads))) k tt
+    row_stands turn s i (letters.Ack t) k q up = place_if_stands 0 turn (if owes (so_far turn) s t then Some (Ack t s) else None) k (calm_if (owes (so_far turn) s t) (Ack t s) tt)
+    row_stands turn s i (letters.CopyDone x v) k q up = copied_stands turn s x v k up
+    row_stands turn s i other k q up = k
+
+  -- a Down of the monitor's
+  pub down_told : (L : Site → ℕ) (n : ℕ) (state : Sequencer) (s : Site) (i : ℕ) → Stands w L n state.announced (opened state) → knows_site w s ≡ true → i ≤ due_of n true s w.events →
+      Told w L n (slice_set state.announced (s.0 - 1) (max i (slice_index state.announced (s.0 - 1)))) (rows.hear_down w state (letters.Down s i))
+  down_told L n state s i k known enough = subst (λ b. Told w L n after (if b then finish w state (rows.down_row w (opened state) s i) else opened state)) (sym known)
+      (finish_told L n after state (rows.down_row w (opened state) s i) (go (is_up w (so_far (opened state)) s && session (vector w (so_far (opened state))) s == i) refl))
+    where
+      after : List ℕ
+      after = slice_set state.announced (s.0 - 1) (max i (slice_index state.announced (s.0 - 1)))
+
+      told : Stands w L n after (rows.announce (opened state) s i)
+      told = record { ledger = k.ledger; lasts = k.lasts; counted = k.counted; announced = refl; silent = refl }
+
+      go : (b : Bool) → (is_up w (so_far (opened state)) s && session (vector w (so_far (opened state))) s == i) ≡ b → Stands w L n after (place_if w 0 (rows.announce (opened state) s i) (if b then Some (Down s) else None))
+      go true q =
+          let parts = and_parts (is_up w (so_far (opened state)) s) (session (vector w (so_far (opened state))) s == i) q in
+          let same = eqb-true (session (vector w (so_far (opened state))) s) i parts.1 in
+          let last = up_last w state.history s k.ledger known parts.0 in
+          down_stands L n after (rows.announce (opened state) s i) s told known parts.0 (subst (λ z. z ≤ due_of n true s w.events) (sym same ∙ last ∙ k.lasts s) enough)
+      go false q = told
+
+  -- a Hello
+  abbrev pub risen : (Site → ℕ) → Site → ℕ → Site → ℕ
+  risen L s i r = if is_site r s then i else L r
+
+  self : (s : Site) → is_site s s ≡ true
+  self s = same s.0
+    where
+      same : (k : ℕ) → (k == k) ≡ true
+      same k = grind arith
+
+  up_stands : (L : Site → ℕ) (n : ℕ) (a : List ℕ) (turn : Turn Sequencer) (s : Site) (i : ℕ) → Stands w L n a turn → knows_site w s ≡ true → is_up w (so_far turn) s ≡ false → i ≡ L s + 1 → L s ≤ due_of n false s w.events →
+      Stands w (risen L s i) n a (place w 0 turn (Up s i))
+  up_stands L n a turn s i k known down follows enough = record {
+    ledger = up_push w turn.state.history s i k.ledger known down (follows ∙ ap (λ l. l + 1) (sym (k.lasts s))) (let room = due_grows w.events n (ends (so_far turn)) false s k.counted in let last = k.lasts s in omega (arith, room, last, enough));
+    lasts = λ r. last_up w turn.state.history s i r ∙ ap (λ l. if is_site r s then i else l) (k.lasts r);
+    counted = (let more = ends_grow w turn.state.history (Up s i) in let le = k.counted in omega (arith, le, more));
+    announced = k.announced;
+    silent = placed_silent 0 turn (Up s i) k.silent;
+  }
+
+  pub hello_told : (L : Site → ℕ) (n : ℕ) (state : Sequencer) (s : Site) (i : ℕ) → Fine w (opened state) → Stands w L n state.announced (opened state) → knows_site w s ≡ true →
+      i ≡ L s + 1 → L s ≤ due_of n true s w.events → L s ≤ due_of n false s w.events → (i ≤ slice_index state.announced (s.0 - 1) → i ≤ due_of n true s w.events) →
+      Told w (risen L s i) n state.announced (finish w state (rows.hello_row w (opened state) s i))
+  hello_told L n state s i fine k known follows gone come late =
+      let turn = opened state in
+      let left = left_stands (is_up w (so_far turn) s) refl in
+      let up = up_stands L n state.announced (rows.leave w turn s) s i left known (leave_fine w turn s fine).1 follows come in
+      finish_told (risen L s i) n state.announced state (rows.hello_row w turn s i) (again (place w 0 (rows.leave w turn s) (Up s i)) up here (nat_le i (rows.announced (place w 0 (rows.leave w turn s) (Up s i)) s)) refl)
+    where
+      left_stands : (b : Bool) → is_up w (so_far (opened state)) s ≡ b → Stands w L n state.announced (if b then settle w (place w 0 (opened state) (Down s)) else opened state)
+      left_stands true q = settle_stands L n state.announced (place w 0 (opened state) (Down s)) (down_stands L n state.announced (opened state) s k known q gone)
+      left_stands false q = k
+
+      here : is_up w (so_far (settle w (place w 0 (rows.leave w (opened state) s) (Up s i)))) s ≡ true
+      here =
+          let fled = leave_fine w (opened state) s fine in
+          let now = place w 0 (rows.leave w (opened state) s) (Up s i) in
+          let placed = sent_placed w 0 (rows.leave w (opened state) s) (Up s i) fled.0 fled.1 in
+          settled_still w s now (settle w now) (settle_settles w now placed)
+          ∙ up_risen w (rows.leave w (opened state) s).state.history s i (left_stands (is_up w (so_far (opened state)) s) refl).ledger known (omega (arith, follows))
+
+      at_most : (x y : ℕ) → nat_le x y ≡ true → x ≤ y
+      at_most x y q = grind (arith, q)
+
+      again : (turn : Turn Sequencer) → Stands w (risen L s i) n state.announced turn → is_up w (so_far (settle w turn)) s ≡ true → (b : Bool) → nat_le i (rows.announced turn s) ≡ b → Stands w (risen L s i) n state.announced (if b then place w 0 (settle w turn) (Down s) else turn)
+      again turn k up false q = k
+      again turn k up true q =
+          let early : i ≤ slice_index turn.state.announced (s.0 - 1) = at_most i (rows.announced turn s) q in
+          let enough = late (subst (λ a. i ≤ slice_index a (s.0 - 1)) k.announced early) in
+          down_stands (risen L s i) n state.announced (settle w turn) s (settle_stands (risen L s i) n state.announced turn k) known up (subst (λ z. z ≤ due_of n true s w.events) (sym mine) enough)
+        where
+          mine : risen L s i s ≡ i
+          mine = ap (λ b. if b then i else L s) (self s)
