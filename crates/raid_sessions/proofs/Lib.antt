@@ -1,5 +1,6 @@
 pub mod Events
 pub mod Heard
+pub mod Holds
 pub mod Ledger
 pub mod Mail
 pub mod Sessions

@@ -125,25 +125,28 @@ posts_elsewhere n server session clock (out ∷ outs) links c d q below differ =
     posts_elsewhere n server session clock outs (post server session clock links out) c d (set_square n links out.0 server _ q) below differ ∙ set_sender n links out.0 server c d _ q below differ
 
 -- the links after a server took a letter and sent some
+abbrev pub moved : List (List (List Letter)) → ℕ → ℕ → ℕ → ℕ → List Letter → List Out → List (List (List Letter))
+moved links server from session clock rest outs = fold (post server session clock) (set_link links server from rest) outs
+
 module _ (n : ℕ) (links : List (List (List Letter))) (server from session clock : ℕ) (rest : List Letter) (outs : List Out) (q : AreSquare n links) (within : server < n) where
-  abbrev pub moved : List (List (List Letter))
-  moved = fold (post server session clock) (set_link links server from rest) outs
+  abbrev pub after : List (List (List Letter))
+  after = moved links server from session clock rest outs
 
   left : AreSquare n (set_link links server from rest)
   left = set_square n links server from rest q
 
-  pub moved_square : AreSquare n moved
+  pub moved_square : AreSquare n after
   moved_square = posts_square n server session clock outs (set_link links server from rest) left
 
   -- the link that it took from, if that isn't its own
-  pub moved_taken : from < n → from ≢ server → link moved server from ≡ rest
+  pub moved_taken : from < n → from ≢ server → link after server from ≡ rest
   moved_taken known differ = posts_elsewhere n server session clock outs (set_link links server from rest) server from left within differ ∙ set_here n links server from rest q within known
 
   -- those that it sends on
-  pub moved_sent : (c : ℕ) → c < n → c ≢ server → link moved c server ≡ link links c server ++ letters_to c session clock outs
+  pub moved_sent : (c : ℕ) → c < n → c ≢ server → link after c server ≡ link links c server ++ letters_to c session clock outs
   moved_sent c below differ = posts_here n server session clock outs (set_link links server from rest) c left within below ∙ ap (λ l. l ++ letters_to c session clock outs) (set_server links server from c server rest differ)
 
   -- and all others
-  pub moved_other : (c d : ℕ) → c < n → d ≢ server → (c ≢ server) ⊎ (d ≢ from) → link moved c d ≡ link links c d
+  pub moved_other : (c d : ℕ) → c < n → d ≢ server → (c ≢ server) ⊎ (d ≢ from) → link after c d ≡ link links c d
   moved_other c d below differ (inl other) = posts_elsewhere n server session clock outs (set_link links server from rest) c d left below differ ∙ set_server links server from c d rest other
   moved_other c d below differ (inr other) = posts_elsewhere n server session clock outs (set_link links server from rest) c d left below differ ∙ set_sender n links server from c d rest q below other
