@@ -42,24 +42,24 @@ get_known [] k below = absurd (omega (arith, below))
 get_known (x ∷ xs) zero below = (x, refl)
 get_known (x ∷ xs) (suc k) below = get_known xs k (omega (arith, below))
 
-get_set : {X : Type 0} (xs : List X) (k : ℕ) (y : X) → k < length xs → slice_get (slice_set xs k y) k ≡ Some y
+pub get_set : {X : Type 0} (xs : List X) (k : ℕ) (y : X) → k < length xs → slice_get (slice_set xs k y) k ≡ Some y
 get_set [] k y below = absurd (omega (arith, below))
 get_set (x ∷ xs) zero y below = refl
 get_set (x ∷ xs) (suc k) y below = get_set xs k y (omega (arith, below))
 
-get_other : {X : Type 0} (xs : List X) (k j : ℕ) (y : X) → j ≢ k → slice_get (slice_set xs k y) j ≡ slice_get xs j
+pub get_other : {X : Type 0} (xs : List X) (k j : ℕ) (y : X) → j ≢ k → slice_get (slice_set xs k y) j ≡ slice_get xs j
 get_other [] k j y differ = refl
 get_other (x ∷ xs) zero zero y differ = absurd (differ refl)
 get_other (x ∷ xs) zero (suc j) y differ = refl
 get_other (x ∷ xs) (suc k) zero y differ = refl
 get_other (x ∷ xs) (suc k) (suc j) y differ = get_other xs k j y (λ q. differ (ap suc q))
 
-set_long : {X : Type 0} (xs : List X) (k : ℕ) (y : X) → length (slice_set xs k y) ≡ length xs
+pub set_long : {X : Type 0} (xs : List X) (k : ℕ) (y : X) → length (slice_set xs k y) ≡ length xs
 set_long [] k y = refl
 set_long (x ∷ xs) zero y = refl
 set_long (x ∷ xs) (suc k) y = ap suc (set_long xs k y)
 
-some_is : {X : Type 0} (x y : X) → Some x ≡ Some y → x ≡ y
+pub some_is : {X : Type 0} (x y : X) → Some x ≡ Some y → x ≡ y
 some_is x y q = cc q
 
 module _ (w : Workload) where

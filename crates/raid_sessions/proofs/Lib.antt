@@ -1,3 +1,4 @@
+pub mod AtSites
 pub mod Events
 pub mod Heard
 pub mod Holds
