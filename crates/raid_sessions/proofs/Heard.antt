@@ -196,7 +196,7 @@ module _ (w : Workload) where
     settle_stands turn k = settle_from_stands _ turn k
 
     -- the end of the step
-    finish_told : (state : Sequencer) (turn : Turn Sequencer) → Kept turn → Told w L n a (finish w state turn)
+    pub finish_told : (state : Sequencer) (turn : Turn Sequencer) → Kept turn → Told w L n a (finish w state turn)
     finish_told state turn k = go (settle w turn) (settle_stands turn k)
       where
         go : (turn : Turn Sequencer) → Kept turn → Told w L n a (rows.send_ends (ends (noted state.history)) (rows.send_copies w turn))
@@ -279,7 +279,7 @@ module _ (w : Workload) where
         go false q = k
 
     -- what a site asks or tells, but for a Hello
-    row_stands : (turn : Turn Sequencer) (s : Site) (i : ℕ) (m : Message) → Kept turn → rows.is_hello m ≡ false → is_up w (so_far turn) s ≡ true → Kept (rows.site_row w turn s i m)
+    pub row_stands : (turn : Turn Sequencer) (s : Site) (i : ℕ) (m : Message) → Kept turn → rows.is_hello m ≡ false → is_up w (so_far turn) s ≡ true → Kept (rows.site_row w turn s i m)
     row_stands turn s i letters.Hello k q up = absurd (true≢false q)
     row_stands turn s i (letters.Begin t) k q up = place_if_stands 0 turn (if may_begin w (so_far turn) t then Some (Begin t (home w t)) else None) k (calm_if (may_begin w (so_far turn) t) (Begin t (home w t)) tt)
     row_stands turn s i (letters.ReadAsk t ask x) k q up = free_stands ask turn t (Some (answer_read w (so_far turn) t x)) k (read_calm (so_far turn) t x)

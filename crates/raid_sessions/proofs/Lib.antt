@@ -1,8 +1,10 @@
+pub mod AtSequencer
 pub mod AtSites
 pub mod Events
 pub mod Heard
 pub mod Holds
 pub mod Ledger
 pub mod Mail
+pub mod Reached
 pub mod Sessions
 pub mod Site
