@@ -1,12 +1,11 @@
 -- The sequencer's step keeps what holds of reached worlds.
-use Rattle.std.proofs.Common.{◌≡◌, ◌≢◌, ◌⊎◌, inl, inr, ℕ, zero, suc, ◌+◌, ◌-◌, ◌<◌, ◌≤◌, ◌==◌, nat_lt, nat_le, Bool, true, false, ◌&&◌, ◌||◌, List, [], ◌∷◌, ◌++◌, length, Option, Some, None, if◌then◌else◌, arith, sym, subst, ap, ◌∙◌, refl}
+use Rattle.std.proofs.Common.{◌≡◌, ◌≢◌, ◌⊎◌, inl, inr, ℕ, zero, suc, ◌+◌, ◌-◌, ◌<◌, ◌≤◌, ◌==◌, nat_lt, nat_le, Bool, true, false, ◌&&◌, ◌||◌, List, [], ◌∷◌, ◌++◌, length, Some, None, if◌then◌else◌, arith, sym, subst, ap, ◌∙◌, refl}
 use Rattle.std.specs.Prelude.{max, take, slice_get, slice_set, slice_index}
 use Rattle.std.specs.List.{AllByRecursion}
-use Rattle.std.proofs.lemmas.Bool.{and_parts, eqb-true, true≢false}
+use Rattle.std.proofs.lemmas.Bool.{and_parts, eqb-true}
 use Rattle.std.proofs.lemmas.Grind.{common_steps}
 use Rattle.raid_base.specs.declared.names.Site.{Site}
 use Rattle.raid_base.specs.declared.entry.Entry.{Entry}
-use Rattle.raid_base.specs.Names.{is_site}
 use Rattle.raid_base.specs.Sites.{session, site}
 use Rattle.raid_workload.specs.declared.workload.Workload.{Workload}
 use Rattle.raid_rules.specs.History.{noted, ends}
@@ -29,7 +28,7 @@ use Rattle.raid_sessions.proofs.Events.{of_site, orders, due_of, reached_due, st
 use Rattle.raid_sessions.proofs.Heard.{IsFair, AreFair, Stands, Told, risen, down_told, hello_told, row_stands, finish_told}
 use Rattle.raid_sessions.proofs.Holds.{get_below, get_known, set_long, LivesIn, Holds}
 use Rattle.raid_sessions.proofs.Mail.{same_or_not, letter_of, letters_to, moved, moved_square, moved_taken, moved_sent, moved_other}
-use Rattle.raid_sessions.proofs.Sessions.{Chain, chain_le, said, news, news_of, ended, IsSome, all_append, Lives}
+use Rattle.raid_sessions.proofs.Sessions.{Chain, chain_le, said, news, news_of, ended, IsSome, all_append}
 
 fair_later : (n m : ℕ) (message : Message) → n ≤ m → IsFair n message → IsFair m message
 fair_later n m (letters.Ends count) le f = omega (arith, le, f)
@@ -221,8 +220,8 @@ module _ (w : Workload) (s : Servers) (links : List (List (List Letter))) (from 
             let long : length a ≡ w.sites = holds.announced in
             let place : r.0 - 1 ≡ (site (k + 1)).0 - 1 = ap (λ n. n - 1) same in
             let here : heard_at announced k ≡ heard_at a k + 1 =
-                ap (slice_index announced) (sym place) ∙ set_index a (r.0 - 1) (max i (slice_index a (r.0 - 1))) (omega (arith, same, below, long))
-                ∙ ap (λ j. max i (slice_index a j)) place ∙ largest i (heard_at a k) parts.0 in
+            ap (slice_index announced) (sym place) ∙ set_index a (r.0 - 1) (max i (slice_index a (r.0 - 1))) (omega (arith, same, below, long))
+            ∙ ap (λ j. max i (slice_index a j)) place ∙ largest i (heard_at a k) parts.0 in
             subst (λ n. Chain n (news (site (k + 1)) rest ++ xs) up_to) (sym here) parts.1
         go false q =
             subst (λ n. Chain n (news (site (k + 1)) rest ++ xs) up_to) (sym (index_other a (r.0 - 1) ((site (k + 1)).0 - 1) (max i (slice_index a (r.0 - 1))) (apart r.0 (k + 1) q some (omega arith)))) (down_next k up_to xs false q c)
@@ -255,14 +254,18 @@ module _ (w : Workload) (s : Servers) (links : List (List (List Letter))) (from 
         is_same x y q = grind (arith, q)
 
     down_results : (b : Bool) → knows_site w r ≡ b → Results (rows.hear_down w s.sequencer (letters.Down r i))
-    down_results true knows = (last, announced, record {
-      told = down_told w last (ends (noted h)) s.sequencer r i stands knows (down_due knows);
-      long = set_long a (r.0 - 1) (max i (slice_index a (r.0 - 1)));
-      asked = λ k up_to below q c. absurd (omega (arith, of, q));
-      unasked = λ k below q. refl;
-      heard = λ k up_to xs below q c. down_heard k up_to xs below (at_least r.0 knows).0 c;
-      unheard = λ k below q. absurd (q of);
-    })
+    down_results true knows = (
+      last,
+      announced,
+      record {
+        told = down_told w last (ends (noted h)) s.sequencer r i stands knows (down_due knows);
+        long = set_long a (r.0 - 1) (max i (slice_index a (r.0 - 1)));
+        asked = λ k up_to below q c. absurd (omega (arith, of, q));
+        unasked = λ k below q. refl;
+        heard = λ k up_to xs below q c. down_heard k up_to xs below (at_least r.0 knows).0 c;
+        unheard = λ k below q. absurd (q of);
+      },
+    )
     down_results false unknown =
         subst (λ b. Results (if b then rows.finish w s.sequencer (rows.down_row w (opened s.sequencer) r i) else opened s.sequencer)) (sym unknown)
         (last, a, same_tells (λ k below q. absurd (omega (arith, of, q))) (λ k below q. ap (news_of (site (k + 1))) down ∙ ap (λ b. if b then i ∷ [] else []) (not_it k below r.0 unknown)) (opened s.sequencer) opened_told)
@@ -291,15 +294,18 @@ module _ (w : Workload) (s : Servers) (links : List (List (List Letter))) (from 
         let told = chain_le (heard_at a j) (news (site (j + 1)) (link links 1 0) ++ said is_farewell (link links 0 (j + 2))) (ended found.0.up found.0.session) mine.closed in
         let gone = stops_due j found.0 found.1 in
         let come = returns_due j found.0 found.1 in
-        let few = ended_least found.0.up found.0.session in
-        (risen w last (site (j + 1)) letter.from, a, record {
-          told = hello_told w last (ends (noted h)) s.sequencer (site (j + 1)) letter.from (holds.placed, holds.quiet) stands (site_known j here) parts.0 (omega (arith, most, gone, few)) (omega (arith, most, come)) (λ late. omega (arith, late, told, gone));
-          long = refl;
-          asked = λ k up_to below q c. (let p = next k up_to c in subst (λ n. Chain n (said is_hello rest) up_to) (sym (ap (λ b. if b then letter.from else last (site (k + 1))) (same_site k q) ∙ p.0)) p.1);
-          unasked = λ k below q. sym (ap (λ b. if b then letter.from else last (site (k + 1))) (other_site k q));
-          heard = λ k up_to xs below q c. absurd (omega (arith, of, q));
-          unheard = λ k below q. refl;
-        })
+        let few = ended_least found.0.up found.0.session in (
+          risen w last (site (j + 1)) letter.from,
+          a,
+          record {
+            told = hello_told w last (ends (noted h)) s.sequencer (site (j + 1)) letter.from (holds.placed, holds.quiet) stands (site_known j here) parts.0 (omega (arith, most, gone, few)) (omega (arith, most, come)) (λ late. omega (arith, late, told, gone));
+            long = refl;
+            asked = λ k up_to below q c. (let p = next k up_to c in subst (λ n. Chain n (said is_hello rest) up_to) (sym (ap (λ b. if b then letter.from else last (site (k + 1))) (same_site k q) ∙ p.0)) p.1);
+            unasked = λ k below q. sym (ap (λ b. if b then letter.from else last (site (k + 1))) (other_site k q));
+            heard = λ k up_to xs below q c. absurd (omega (arith, of, q));
+            unheard = λ k below q. refl;
+          },
+        )
       where
         next : (k up_to : ℕ) → Chain (last (site (k + 1))) (said is_hello (letter ∷ rest)) up_to → (letter.from ≡ last (site (k + 1)) + 1) × Chain (last (site (k + 1)) + 1) (said is_hello rest) up_to
         next k up_to c = subst (λ m. Chain (last (site (k + 1))) (if is_hello m then letter.from ∷ said is_hello rest else said is_hello rest) up_to) hello c

@@ -1,26 +1,25 @@
 -- A site's step keeps what holds of reached worlds.
-use Rattle.std.proofs.Common.{◌≡◌, ◌≢◌, ◌⊎◌, inl, inr, ℕ, zero, suc, ◌+◌, ◌-◌, ◌<◌, ◌≤◌, cond, Bool, true, false, List, [], ◌∷◌, ◌++◌, length, Option, Some, None, if◌then◌else◌, arith, sym, subst, ap, ◌∙◌, refl, append-nil}
+use Rattle.std.proofs.Common.{◌≡◌, ◌≢◌, ◌⊎◌, inl, inr, ℕ, ◌+◌, ◌<◌, ◌≤◌, Bool, true, false, List, [], ◌∷◌, ◌++◌, Some, arith, sym, subst, ap, ◌∙◌, refl, append-nil}
 use Rattle.std.specs.Prelude.{slice_get, slice_set}
 use Rattle.std.specs.List.{AllByRecursion}
-use Rattle.raid_base.specs.declared.entry.Entry.{Entry}
 use Rattle.raid_base.specs.Sites.{site}
 use Rattle.raid_workload.specs.declared.workload.Workload.{Workload}
 use Rattle.raid_rules.specs.History.{noted, ends}
 use Rattle.raid_message.specs.declared.letter.Message.TheVariants as letters
 use Rattle.raid_message.specs.declared.letter.Letter.{Letter}
-use Rattle.raid_steps.specs.State.{Out, Turn, SiteState}
+use Rattle.raid_steps.specs.State.{Turn, SiteState}
 use Rattle.raid_steps.specs.Fits.{knows_site}
 use Rattle.raid_steps.specs.World.{Servers, link}
 use Rattle.raid_steps.proofs.Parts.{number_known}
-use Rattle.raid_sessions.proofs.Events.{is_order_of, orders, orders_cons}
+use Rattle.raid_sessions.proofs.Events.{orders, orders_cons}
 use Rattle.raid_sessions.proofs.Heard.{IsFair}
 use Rattle.raid_sessions.proofs.Holds.{get_below, get_set, get_other, set_long, some_is, LivesIn, Holds, lives_is}
 use Rattle.raid_sessions.proofs.Mail.{same_or_not, letters_to, moved, moved_square, moved_taken, moved_sent, moved_other}
-use Rattle.raid_sessions.proofs.Sessions.{chain_le, said, Lives, lives_on, lives_less, lives_again}
-use Rattle.raid_sessions.proofs.Site.{SiteStep, Stops, Returns, Stays, stops, returns, stays}
+use Rattle.raid_sessions.proofs.Sessions.{chain_le, Lives, lives_on, lives_less, lives_again}
+use Rattle.raid_sessions.proofs.Site.{SiteStep, stops, returns, stays}
 
 module _ (w : Workload) (s : Servers) (links : List (List (List Letter))) (k from clock : ℕ) (letter : Letter) (rest : List Letter) (known : from < w.sites + 2) (front : link links (k + 2) from ≡ letter ∷ rest) (holds : Holds w s links)
-  (state : SiteState) (here : slice_get s.sites k ≡ Some state) where
+    (state : SiteState) (here : slice_get s.sites k ≡ Some state) where
   inside : k + 2 < w.sites + 2
   inside = (let q = get_below s.sites k state here in let l = holds.long in omega (arith, q, l))
 

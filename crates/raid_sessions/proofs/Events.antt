@@ -1,5 +1,5 @@
 -- The workload's stops and returns: how many of a site's have had their trigger, and how many the monitor has sent out.
-use Rattle.std.proofs.Common.{◌≡◌, ℕ, zero, suc, ◌+◌, ◌<◌, ◌≤◌, ◌==◌, nat_le, Bool, true, false, not, cond, ◌&&◌, List, [], ◌∷◌, ◌++◌, length, map, if◌then◌else◌, arith, sym, subst, ap, ◌∙◌, refl}
+use Rattle.std.proofs.Common.{◌≡◌, ℕ, zero, suc, ◌+◌, ◌≤◌, ◌==◌, nat_le, Bool, true, false, not, cond, ◌&&◌, List, [], ◌∷◌, ◌++◌, length, map, if◌then◌else◌, arith, sym, subst, ap, ◌∙◌, refl}
 use Rattle.std.specs.Prelude.{take, drop, count_by, take_while}
 use Rattle.std.specs.List.{AllByRecursion, prefix_len}
 use Rattle.std.proofs.lemmas.Grind.{common_steps}

@@ -1,5 +1,5 @@
 -- The sequencer's step: where the letters that it hears tell the truth of stops and returns, the entries that it places are due.
-use Rattle.std.proofs.Common.{◌≡◌, ℕ, ℤ, zero, suc, ◌+◌, ◌-◌, ◌<◌, ◌≤◌, ◌==◌, nat_lt, nat_le, Bool, true, false, not, ◌&&◌, ◌||◌, List, [], ◌∷◌, ◌++◌, length, map, Option, Some, None, if◌then◌else◌, arith, sym, subst, ap, ◌∙◌, refl}
+use Rattle.std.proofs.Common.{◌≡◌, ℕ, zero, suc, ◌+◌, ◌-◌, ◌≤◌, ◌==◌, nat_lt, nat_le, Bool, true, false, not, ◌&&◌, List, [], ◌∷◌, ◌++◌, length, map, Option, Some, None, if◌then◌else◌, arith, sym, subst, ap, ◌∙◌, refl}
 use Rattle.std.specs.Prelude.{⊤, max, filter, flat_map, slice_index, slice_set}
 use Rattle.std.specs.List.{AllByRecursion, list_all}
 use Rattle.std.specs.Option.{option_map_or}
@@ -17,7 +17,7 @@ use Rattle.raid_base.specs.declared.entry.Noted.{Noted}
 use Rattle.raid_base.specs.declared.verdict.Verdict.{Verdict}
 use Rattle.raid_base.specs.declared.verdict.Verdict.TheVariants as verdicts
 use Rattle.raid_base.specs.Names.{is_site, has_site}
-use Rattle.raid_base.specs.Sites.{session, site}
+use Rattle.raid_base.specs.Sites.{session}
 use Rattle.raid_workload.specs.declared.workload.Workload.{Workload}
 use Rattle.raid_workload.specs.Parts.{sites, home}
 use Rattle.raid_rules.specs.History.{noted, ends, stamp, is_waiting, version}
@@ -31,9 +31,8 @@ use Rattle.raid_legal.specs.Legal.{is_free, may_begin}
 use Rattle.raid_legal.proofs.Left.{Compels, forced_compels}
 use Rattle.raid_message.specs.declared.letter.Message.{Message}
 use Rattle.raid_message.specs.declared.letter.Message.TheVariants as letters
-use Rattle.raid_message.specs.declared.letter.Letter.{Letter}
 use Rattle.raid_steps.specs.State.{Out, Turn, Sequencer, Copying, opened, to_site}
-use Rattle.raid_steps.specs.Fits.{knows_site, is_to_sequencer}
+use Rattle.raid_steps.specs.Fits.{knows_site}
 use Rattle.raid_steps.specs.Table.{is_count}
 use Rattle.raid_steps.specs.Sequencer as rows
 use Rattle.raid_steps.specs.Sequencer.{so_far, place, place_if, settle_from, settle, finish}

@@ -1,33 +1,28 @@
 -- What holds of the servers and links of every reached world, and that steps of the monitor and of sites keep it.
-use Rattle.std.proofs.Common.{◌≡◌, ◌≢◌, ◌⊎◌, inl, inr, ℕ, zero, suc, ◌+◌, ◌-◌, ◌<◌, ◌≤◌, ◌==◌, nat_le, Bool, true, false, List, [], ◌∷◌, ◌++◌, length, map, fold, Option, Some, None, if◌then◌else◌, arith, sym, subst, ap, ◌∙◌, refl, append-nil, append_assoc}
-use Rattle.std.specs.Prelude.{take, slice_get, slice_set, slice_index, slice_index_or}
-use Rattle.std.specs.List.{AllByRecursion, list_all}
-use Rattle.std.specs.Option.{option_map_or}
-use Rattle.std.proofs.lemmas.Bool.{eqb-true, true≢false}
+use Rattle.std.proofs.Common.{◌≡◌, ◌≢◌, ◌⊎◌, inl, inr, ℕ, zero, suc, ◌+◌, ◌-◌, ◌<◌, ◌≤◌, ◌==◌, nat_le, Bool, true, false, List, [], ◌∷◌, ◌++◌, length, map, Some, None, if◌then◌else◌, arith, sym, subst, ap, ◌∙◌, refl, append-nil, append_assoc}
+use Rattle.std.specs.Prelude.{take, slice_get, slice_set}
+use Rattle.std.specs.List.{AllByRecursion}
+use Rattle.std.proofs.lemmas.Bool.{eqb-true}
 use Rattle.raid_base.specs.declared.names.Site.{Site}
 use Rattle.raid_base.specs.declared.entry.Entry.{Entry}
-use Rattle.raid_base.specs.Names.{is_site}
 use Rattle.raid_base.specs.Sites.{site}
 use Rattle.raid_workload.specs.declared.workload.Workload.{Workload}
 use Rattle.raid_workload.specs.declared.workload.Event.{Event}
 use Rattle.raid_rules.specs.History.{noted, ends}
-use Rattle.raid_rules.specs.Sessions.{last_session}
 use Rattle.raid_legal.specs.Forced.{forced}
 use Rattle.raid_message.specs.declared.letter.Message.{Message}
 use Rattle.raid_message.specs.declared.letter.Message.TheVariants as letters
 use Rattle.raid_message.specs.declared.letter.Letter.{Letter}
 use Rattle.raid_steps.specs.State.{Out, Turn, SiteState, opened}
 use Rattle.raid_steps.specs.Table.{is_farewell}
-use Rattle.raid_steps.specs.Sequencer.{is_hello}
 use Rattle.raid_steps.specs.Monitor.{due_events, event_out, ends_row, halted_row, monitor_row, hear_monitor}
-use Rattle.raid_steps.specs.World.{Servers, link, set_link, post}
+use Rattle.raid_steps.specs.World.{Servers, link}
 use Rattle.raid_placed.specs.Placed.{Placed}
 use Rattle.raid_sessions.proofs.Events.{IsReached, of_site, orders, of_append, orders_sent, fired_more, more_reached}
 use Rattle.raid_sessions.proofs.Heard.{IsFair}
 use Rattle.raid_sessions.proofs.Ledger.{Ledger}
 use Rattle.raid_sessions.proofs.Mail.{same_or_not, AreSquare, letters_to, moved, moved_square, moved_taken, moved_sent, moved_other}
-use Rattle.raid_sessions.proofs.Sessions.{Chain, chain_le, said, news, news_of, news_append, ended, Lives, lives_on, lives_less, lives_again, lives_ordered}
-use Rattle.raid_sessions.proofs.Site.{SiteStep, Stops, Returns, Stays, stops, returns, stays}
+use Rattle.raid_sessions.proofs.Sessions.{said, news, news_append, Lives, lives_ordered}
 
 -- an element of a list, before and after one is set
 pub get_below : {X : Type 0} (xs : List X) (k : ℕ) (x : X) → slice_get xs k ≡ Some x → k < length xs

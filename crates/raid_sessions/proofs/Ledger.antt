@@ -1,27 +1,25 @@
 -- Histories whose stops, returns and renewed copies were due, and how often each site has gone down and come up in them.
-use Rattle.std.proofs.Common.{◌≡◌, ◌≢◌, ◌⊎◌, inl, inr, ℕ, zero, suc, ◌+◌, ◌-◌, ◌<◌, ◌≤◌, ◌==◌, nat_lt, nat_le, Bool, true, false, not, cond, ◌&&◌, List, [], ◌∷◌, ◌++◌, length, fold, replicate, if◌then◌else◌, arith, sym, subst, ap, ◌∙◌, refl}
-use Rattle.std.specs.Prelude.{slice_index, slice_set, count_by}
+use Rattle.std.proofs.Common.{◌≡◌, ◌≢◌, ◌⊎◌, inl, inr, ℕ, zero, suc, ◌+◌, ◌-◌, ◌<◌, ◌≤◌, ◌==◌, nat_lt, nat_le, Bool, true, false, not, cond, ◌&&◌, List, [], ◌∷◌, ◌++◌, length, replicate, if◌then◌else◌, arith, sym, subst, ap, ◌∙◌, refl}
+use Rattle.std.specs.Prelude.{slice_index, slice_set}
 use Rattle.std.proofs.lemmas.Bool.{and_parts, and_from, eqb-true, true≢false}
 use Rattle.std.proofs.lemmas.Grind.{common_steps}
-use Rattle.std.proofs.lemmas.List.Sums.{sum_by-append}
 use Rattle.raid_base.specs.declared.names.Site.{Site}
 use Rattle.raid_base.specs.declared.entry.Entry.{Entry}
-use Rattle.raid_base.specs.declared.entry.Entry.TheVariants.{Begin, Read, Wait, Commit, Abort, Ack, SwitchOn, SwitchEnd, Down, Up, Clear}
+use Rattle.raid_base.specs.declared.entry.Entry.TheVariants.{Down, Up}
 use Rattle.raid_base.specs.declared.entry.Noted.{Noted}
 use Rattle.raid_base.specs.Names.{is_site}
 use Rattle.raid_base.specs.Sites.{session}
 use Rattle.raid_workload.specs.declared.workload.Workload.{Workload}
-use Rattle.raid_rules.specs.Entries.{is_down, is_up as is_up_entry, is_end}
+use Rattle.raid_rules.specs.Entries.{is_down, is_up as is_up_entry}
 use Rattle.raid_rules.specs.History.{noted, add, next, ends}
 use Rattle.raid_rules.specs.Sessions.{turn_vector, turn_last, last_session}
 use Rattle.raid_rules.proofs.Push.{noted_push, vector_push}
 use Rattle.raid_legal.specs.Seen.{vector, is_up}
-use Rattle.raid_legal.specs.Legal.{EachSeeing, Free, due, downs, ups}
+use Rattle.raid_legal.specs.Legal.{EachSeeing, due, downs, ups}
 use Rattle.raid_legal.proofs.Push.{each_push}
 use Rattle.raid_steps.specs.Fits.{knows_site}
 use Rattle.raid_sessions.specs.Due.{IsDue, AreDue}
 use Rattle.raid_sessions.proofs.Events.{due_of}
-use Rattle.raid_sessions.proofs.Mail.{same_or_not}
 
 -- a site's session, its last one, and how often it has gone down and come up: it came up once for each session after the first, and went
 -- down once for each that has ended

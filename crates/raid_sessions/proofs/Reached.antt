@@ -1,28 +1,24 @@
 -- In every reached world, the stops and returns that the history tells of were due.
-use Rattle.std.proofs.Common.{◌≡◌, ◌⊎◌, ℕ, zero, suc, ◌+◌, ◌-◌, ◌<◌, ◌≤◌, nat_lt, Bool, true, false, List, [], ◌∷◌, ◌++◌, length, map, fold, replicate, Option, Some, None, if◌then◌else◌, arith, sym, subst, ap, ◌∙◌, refl}
-use Rattle.std.specs.Prelude.{max, filter, slice_get, slice_set, slice_index, slice_index_or}
+use Rattle.std.proofs.Common.{◌≡◌, ℕ, zero, suc, ◌+◌, ◌-◌, ◌<◌, ◌≤◌, nat_lt, Bool, true, false, List, [], ◌∷◌, length, map, fold, replicate, Option, Some, None, arith, sym, subst, ap, ◌∙◌, refl}
+use Rattle.std.specs.Prelude.{max, slice_get, slice_set, slice_index, slice_index_or}
 use Rattle.std.specs.List.{AllByRecursion}
 use Rattle.std.specs.Option.{option_map_or}
 use Rattle.raid_base.specs.declared.names.Site.{Site}
 use Rattle.raid_base.specs.Sites.{site}
 use Rattle.raid_workload.specs.declared.workload.Workload.{Workload}
 use Rattle.raid_workload.specs.Parts.{sites, count_from}
-use Rattle.raid_rules.specs.History.{noted}
 use Rattle.raid_message.specs.declared.letter.Letter.{Letter}
 use Rattle.raid_message.specs.declared.letter.Pick.{Pick}
-use Rattle.raid_steps.specs.State.{Out, Turn, SiteState}
-use Rattle.raid_steps.specs.Monitor.{hear_monitor}
-use Rattle.raid_steps.specs.Sequencer.{hear_sequencer}
+use Rattle.raid_steps.specs.State.{SiteState}
 use Rattle.raid_steps.specs.Site.{hear_site}
-use Rattle.raid_steps.specs.World.{World, Servers, hear, hear_at, session_of, link, set_link, post, take_front, pick, run, open_world, first_servers, first_links, first_letter, first_site}
+use Rattle.raid_steps.specs.World.{World, Servers, hear, hear_at, session_of, link, take_front, pick, run, open_world, first_links, first_site}
 use Rattle.raid_placed.proofs.Opening.{opening_placed, opening_quiet}
 use Rattle.raid_sessions.specs.Due.{AreDue}
 use Rattle.raid_sessions.proofs.AtSequencer.{sequencer_holds}
 use Rattle.raid_sessions.proofs.AtSites.{site_holds}
-use Rattle.raid_sessions.proofs.Events.{of_site}
 use Rattle.raid_sessions.proofs.Holds.{get_below, get_set, LivesIn, Holds, lives_is, monitor_holds}
-use Rattle.raid_sessions.proofs.Ledger.{Ledger, opening_ledger}
-use Rattle.raid_sessions.proofs.Mail.{AreSquare, moved, moved_square}
+use Rattle.raid_sessions.proofs.Ledger.{opening_ledger}
+use Rattle.raid_sessions.proofs.Mail.{AreSquare, moved}
 use Rattle.raid_sessions.proofs.Sessions.{Lives}
 use Rattle.raid_sessions.proofs.Site.{site_step}
 
