@@ -212,6 +212,39 @@ module _ (w : Workload) where
       same : (k : ℕ) → (k == k) ≡ true
       same k = grind arith
 
+  -- what becomes of a site's session
+  session_push : (h : List Entry) (e : Entry) (s : Site) → session (vector w (noted (h ++ e ∷ []))) s ≡ session (turn_vector (vector w (noted h)) e) s
+  session_push h e s = ap (λ p. session (vector w p) s) (noted_push h e) ∙ ap (λ v. session v s) (vector_push w.sites (noted h) (next (noted h) e))
+
+  pub session_still : (h : List Entry) (e : Entry) (s : Site) → is_still e ≡ true → session (vector w (noted (h ++ e ∷ []))) s ≡ session (vector w (noted h)) s
+  session_still h e s q = session_push h e s ∙ go e q
+    where
+      go : (e : Entry) → is_still e ≡ true → session (turn_vector (vector w (noted h)) e) s ≡ session (vector w (noted h)) s
+      go (Down r) q = absurd (true≢false (sym q))
+      go (Up r n) q = absurd (true≢false (sym q))
+      go other q = refl
+
+  pub session_set : (v : List ℕ) (s r : Site) (n : ℕ) → length v ≡ w.sites → knows_site w s ≡ true → knows_site w r ≡ true → session (slice_set v (s.0 - 1) n) r ≡ (if is_site r s then n else session v r)
+  session_set v s r n long known known_too = go (s.0 == r.0) refl
+    where
+      go : (b : Bool) → (s.0 == r.0) ≡ b → session (slice_set v (s.0 - 1) n) r ≡ (if s.0 == r.0 then n else session v r)
+      go true q = session_same v s r n long known q ∙ ap (λ b. if b then n else session v r) (sym q)
+      go false q = session_other v s r n known known_too q ∙ ap (λ b. if b then n else session v r) (sym q)
+
+  pub session_down : (h : List Entry) (s r : Site) → Ledger w h → knows_site w s ≡ true → knows_site w r ≡ true → session (vector w (noted (h ++ Down s ∷ []))) r ≡ (if is_site r s then 0 else session (vector w (noted h)) r)
+  session_down h s r l known known_too = session_push h (Down s) r ∙ session_set (vector w (noted h)) s r 0 l.long known known_too
+
+  pub session_up : (h : List Entry) (s : Site) (n : ℕ) (r : Site) → Ledger w h → knows_site w s ≡ true → knows_site w r ≡ true → session (vector w (noted (h ++ Up s n ∷ []))) r ≡ (if is_site r s then n else session (vector w (noted h)) r)
+  session_up h s n r l known known_too = session_push h (Up s n) r ∙ session_set (vector w (noted h)) s r n l.long known known_too
+
+  -- a site is in no session after its last
+  pub session_most : (h : List Entry) (s : Site) → Ledger w h → knows_site w s ≡ true → session (vector w (noted h)) s ≤ last_session (noted h) s
+  session_most h s l known =
+      elim (l.accounts s known).gone [
+        | inl q ↦ omega (arith, q.0)
+        | inr q ↦ omega (arith, q.0)
+      ]
+
   -- what becomes of a site's last session
   pub last_still : (h : List Entry) (e : Entry) (s : Site) → is_still e ≡ true → last_session (noted (h ++ e ∷ [])) s ≡ last_session (noted h) s
   last_still h e s q = ap (λ p. last_session p s) (noted_push h e) ∙ last_push (noted h) (next (noted h) e) s ∙ go e q

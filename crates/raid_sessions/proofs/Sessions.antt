@@ -6,10 +6,11 @@ use Rattle.std.proofs.lemmas.Bool.{and_parts, true≢false}
 use Rattle.raid_base.specs.declared.names.Site.{Site}
 use Rattle.raid_base.specs.declared.entry.Entry.{Entry}
 use Rattle.raid_base.specs.Names.{is_site}
-use Rattle.raid_base.specs.Sites.{site}
+use Rattle.raid_base.specs.Sites.{site, session as session_at}
 use Rattle.raid_workload.specs.declared.workload.Workload.{Workload}
 use Rattle.raid_rules.specs.History.{noted}
 use Rattle.raid_rules.specs.Sessions.{last_session}
+use Rattle.raid_legal.specs.Seen.{vector}
 use Rattle.raid_message.specs.declared.letter.Message.{Message}
 use Rattle.raid_message.specs.declared.letter.Message.TheVariants as letters
 use Rattle.raid_message.specs.declared.letter.Letter.{Letter}
@@ -108,6 +109,8 @@ pub record Lives (w : Workload) (k : ℕ) (up : Bool) (session fired : ℕ) (h :
   pub opened : Chain (last_session (noted h) (site (k + 1))) (said is_hello asks) session
   pub some : AllByRecursion IsSome asks
   pub closed : Chain (slice_index a ((site (k + 1)).0 - 1)) (news (site (k + 1)) bulletins ++ said is_farewell farewells) (ended up session)
+  pub fallen : session_at (vector w (noted h)) (site (k + 1)) ≡ 0 → last_session (noted h) (site (k + 1)) ≤ ended up session
+  pub ahead : 1 ≤ session_at (vector w (noted h)) (site (k + 1)) → slice_index a ((site (k + 1)).0 - 1) + 1 ≤ session_at (vector w (noted h)) (site (k + 1))
   pub stops : ended up session + orders true commands ≤ of_site true (site (k + 1)) (take fired w.events)
   pub returns : session + orders false commands ≤ of_site false (site (k + 1)) (take fired w.events) + 1
 
@@ -124,6 +127,8 @@ module _ (w : Workload) (k fired : ℕ) (h : List Entry) (a : List ℕ) (command
     opened = subst (λ xs. Chain (last_session (noted h) (site (k + 1))) xs session) (sym asked) l.opened;
     some = all_append IsSome asks (letters_to 1 session clock outs) l.some (some_sent 1 session clock outs some);
     closed = subst (λ xs. Chain (slice_index a ((site (k + 1)).0 - 1)) (news (site (k + 1)) bulletins ++ xs) (ended up session)) (sym told) l.closed;
+    fallen = l.fallen;
+    ahead = l.ahead;
     stops = (let h = l.stops in let f = fewer true in omega (arith, h, f));
     returns = (let h = l.returns in let f = fewer false in omega (arith, h, f));
   } where
@@ -142,6 +147,8 @@ module _ (w : Workload) (k fired : ℕ) (h : List Entry) (a : List ℕ) (command
     some = l.some;
     closed = subst (λ e. Chain heard (news (site (k + 1)) bulletins ++ said is_farewell (farewells ++ farewell ∷ [])) e) (next session some)
         (subst (λ xs. Chain heard xs (session - 1 + 1)) (sym told) (chain_push heard (news (site (k + 1)) bulletins ++ said is_farewell farewells) (session - 1) l.closed));
+    fallen = λ q. (let f = l.fallen q in omega (arith, f, some));
+    ahead = l.ahead;
     stops = (let e = one_order true letter.message letters.Stop (orders true commands) (orders true left) stop (counted true) in let h = l.stops in omega (arith, e, h, some));
     returns = (let e = counted false in let h = l.returns in omega (arith, e, h));
   } where
@@ -168,6 +175,8 @@ module _ (w : Workload) (k fired : ℕ) (h : List Entry) (a : List ℕ) (command
     opened = subst (λ xs. Chain (last_session (noted h) (site (k + 1))) xs (session + 1)) (sym asked) (chain_push (last_session (noted h) (site (k + 1))) (said is_hello asks) session l.opened);
     some = all_append IsSome asks (hello ∷ []) l.some (omega (arith, mine), tt);
     closed = subst (λ e. Chain (slice_index a ((site (k + 1)).0 - 1)) (news (site (k + 1)) bulletins ++ said is_farewell farewells) e) (back session) l.closed;
+    fallen = λ q. (let f = l.fallen q in omega (arith, f));
+    ahead = l.ahead;
     stops = (let e = counted true in let h = l.stops in omega (arith, e, h));
     returns = (let e = one_order false letter.message letters.Return (orders false commands) (orders false left) come (counted false) in let h = l.returns in omega (arith, e, h));
   } where
@@ -192,6 +201,8 @@ module _ (w : Workload) (k fired : ℕ) (h : List Entry) (a : List ℕ) (command
     opened = l.opened;
     some = l.some;
     closed = subst (λ xs. Chain (slice_index a ((site (k + 1)).0 - 1)) xs (ended up session)) (sym same) l.closed;
+    fallen = l.fallen;
+    ahead = l.ahead;
     stops = (let h = l.stops in let c = counted true in let o = orders_append true commands sent in omega (arith, h, c, o));
     returns = (let h = l.returns in let c = counted false in let o = orders_append false commands sent in omega (arith, h, c, o));
   }
