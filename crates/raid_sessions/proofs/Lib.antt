@@ -4,6 +4,7 @@ pub mod Events
 pub mod Heard
 pub mod Holds
 pub mod Ledger
+pub mod Lists
 pub mod Mail
 pub mod Reached
 pub mod Sessions
