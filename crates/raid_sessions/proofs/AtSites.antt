@@ -5,6 +5,7 @@ use Rattle.std.specs.List.{AllByRecursion}
 use Rattle.raid_base.specs.Sites.{site}
 use Rattle.raid_workload.specs.declared.workload.Workload.{Workload}
 use Rattle.raid_rules.specs.History.{noted, ends}
+use Rattle.raid_rules.specs.Sessions.{last_session}
 use Rattle.raid_message.specs.declared.letter.Message.TheVariants as letters
 use Rattle.raid_message.specs.declared.letter.Letter.{Letter}
 use Rattle.raid_steps.specs.State.{Turn, SiteState}
@@ -13,7 +14,8 @@ use Rattle.raid_steps.specs.World.{Servers, link}
 use Rattle.raid_steps.proofs.Parts.{number_known}
 use Rattle.raid_sessions.proofs.Events.{orders, orders_cons}
 use Rattle.raid_sessions.proofs.Heard.{IsFair}
-use Rattle.raid_sessions.proofs.Holds.{get_below, get_set, get_other, set_long, some_is, LivesIn, Holds, lives_is}
+use Rattle.raid_sessions.proofs.Holds.{IsUpTo, LivesIn, Holds, lives_is}
+use Rattle.raid_sessions.proofs.Lists.{get_below, get_set, get_other, set_long, some_is}
 use Rattle.raid_sessions.proofs.Mail.{same_or_not, letters_to, moved, moved_square, moved_taken, moved_sent, moved_other}
 use Rattle.raid_sessions.proofs.Sessions.{chain_le, Lives, lives_on, lives_less, lives_again}
 use Rattle.raid_sessions.proofs.Site.{SiteStep, stops, returns, stays}
@@ -114,6 +116,23 @@ module _ (w : Workload) (s : Servers) (links : List (List (List Letter))) (k fro
             subst (λ i. LivesIn w s.fired s.sequencer.history s.sequencer.announced links_after i other) (sym q) (subst (LivesIn w s.fired s.sequencer.history s.sequencer.announced links_after k) same (mine_after step))
         go (inr q) = others_after j other q (sym (get_other s.sites k j turn.state q) ∙ there)
 
+    -- what the sequencer told the sites
+    within_after : (j : ℕ) → j < w.sites → AllByRecursion (IsUpTo (last_session (noted s.sequencer.history) (site (j + 1)))) (link links_after (j + 2) 1)
+    within_after j below = go (same_or_not j k) (same_or_not from 1)
+      where
+        go : (j ≡ k) ⊎ (j ≢ k) → (from ≡ 1) ⊎ (from ≢ 1) → AllByRecursion (IsUpTo (last_session (noted s.sequencer.history) (site (j + 1)))) (link links_after (j + 2) 1)
+        go (inr q) r =
+            subst (AllByRecursion (IsUpTo (last_session (noted s.sequencer.history) (site (j + 1)))))
+            (sym (moved_other (w.sites + 2) links (k + 2) from turn.state.session clock rest turn.outs holds.square inside (j + 2) 1 (omega (arith, below)) (λ e. omega (arith, e)) (inl (λ e. q (omega (arith, e)))))) (holds.within j below)
+        go (inl q) (inr r) =
+            subst (AllByRecursion (IsUpTo (last_session (noted s.sequencer.history) (site (j + 1)))))
+            (sym (moved_other (w.sites + 2) links (k + 2) from turn.state.session clock rest turn.outs holds.square inside (j + 2) 1 (omega (arith, below)) (λ e. omega (arith, e)) (inr (λ e. r (sym e))))) (holds.within j below)
+        go (inl q) (inl r) =
+            let place : k + 2 ≡ j + 2 = omega (arith, q) in
+            let taken = ap (λ c. link links_after c 1) (sym place) ∙ ap (link links_after (k + 2)) (sym r) ∙ moved_taken (w.sites + 2) links (k + 2) from turn.state.session clock rest turn.outs holds.square inside known (λ e. omega (arith, e, r)) in
+            let were = ap (λ c. link links c 1) (sym place) ∙ ap (link links (k + 2)) (sym r) ∙ front in
+            subst (AllByRecursion (IsUpTo (last_session (noted s.sequencer.history) (site (j + 1))))) (sym taken) (subst (AllByRecursion (IsUpTo (last_session (noted s.sequencer.history) (site (j + 1))))) were (holds.within j below)).1
+
     pub site_holds : SiteStep state from letter turn → Holds w (record s { sites = slice_set s.sites k turn.state }) (moved links (k + 2) from turn.state.session clock rest turn.outs)
     site_holds step = record {
       square = moved_square (w.sites + 2) links (k + 2) from turn.state.session clock rest turn.outs holds.square inside;
@@ -125,5 +144,6 @@ module _ (w : Workload) (s : Servers) (links : List (List (List Letter))) (k fro
       reached = holds.reached;
       fair = subst (AllByRecursion (λ (l : Letter). IsFair (ends (noted s.sequencer.history)) l.message))
           (sym (moved_other (w.sites + 2) links (k + 2) from turn.state.session clock rest turn.outs holds.square inside 0 1 (omega arith) (λ q. omega (arith, q)) (inl (λ q. omega (arith, q))))) holds.fair;
+      within = within_after;
       each = each_after step;
     }

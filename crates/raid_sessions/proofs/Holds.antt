@@ -9,6 +9,7 @@ use Rattle.raid_base.specs.Sites.{site}
 use Rattle.raid_workload.specs.declared.workload.Workload.{Workload}
 use Rattle.raid_workload.specs.declared.workload.Event.{Event}
 use Rattle.raid_rules.specs.History.{noted, ends}
+use Rattle.raid_rules.specs.Sessions.{last_session}
 use Rattle.raid_legal.specs.Forced.{forced}
 use Rattle.raid_message.specs.declared.letter.Message.{Message}
 use Rattle.raid_message.specs.declared.letter.Message.TheVariants as letters
@@ -21,41 +22,13 @@ use Rattle.raid_placed.specs.Placed.{Placed}
 use Rattle.raid_sessions.proofs.Events.{IsReached, of_site, orders, of_append, orders_sent, fired_more, more_reached}
 use Rattle.raid_sessions.proofs.Heard.{IsFair}
 use Rattle.raid_sessions.proofs.Ledger.{Ledger}
+use Rattle.raid_sessions.proofs.Lists.{get_below}
 use Rattle.raid_sessions.proofs.Mail.{same_or_not, AreSquare, letters_to, moved, moved_square, moved_taken, moved_sent, moved_other}
 use Rattle.raid_sessions.proofs.Sessions.{said, news, news_append, Lives, lives_ordered}
 
--- an element of a list, before and after one is set
-pub get_below : {X : Type 0} (xs : List X) (k : ℕ) (x : X) → slice_get xs k ≡ Some x → k < length xs
-get_below [] k x q = absurd (nothing q) where
-  nothing : None ≡ Some x → ⊥
-  nothing q = cc q
-get_below (y ∷ xs) zero x q = omega arith
-get_below (y ∷ xs) (suc k) x q = let rest = get_below xs k x q in omega (arith, rest)
-
-pub get_known : {X : Type 0} (xs : List X) (k : ℕ) → k < length xs → (x : X) × (slice_get xs k ≡ Some x)
-get_known [] k below = absurd (omega (arith, below))
-get_known (x ∷ xs) zero below = (x, refl)
-get_known (x ∷ xs) (suc k) below = get_known xs k (omega (arith, below))
-
-pub get_set : {X : Type 0} (xs : List X) (k : ℕ) (y : X) → k < length xs → slice_get (slice_set xs k y) k ≡ Some y
-get_set [] k y below = absurd (omega (arith, below))
-get_set (x ∷ xs) zero y below = refl
-get_set (x ∷ xs) (suc k) y below = get_set xs k y (omega (arith, below))
-
-pub get_other : {X : Type 0} (xs : List X) (k j : ℕ) (y : X) → j ≢ k → slice_get (slice_set xs k y) j ≡ slice_get xs j
-get_other [] k j y differ = refl
-get_other (x ∷ xs) zero zero y differ = absurd (differ refl)
-get_other (x ∷ xs) zero (suc j) y differ = refl
-get_other (x ∷ xs) (suc k) zero y differ = refl
-get_other (x ∷ xs) (suc k) (suc j) y differ = get_other xs k j y (λ q. differ (ap suc q))
-
-pub set_long : {X : Type 0} (xs : List X) (k : ℕ) (y : X) → length (slice_set xs k y) ≡ length xs
-set_long [] k y = refl
-set_long (x ∷ xs) zero y = refl
-set_long (x ∷ xs) (suc k) y = ap suc (set_long xs k y)
-
-pub some_is : {X : Type 0} (x y : X) → Some x ≡ Some y → x ≡ y
-some_is x y q = cc q
+-- a letter is meant for no session after this one
+abbrev pub IsUpTo : ℕ → Letter → Type 0
+IsUpTo n letter = letter.to ≤ n
 
 module _ (w : Workload) where
   -- a site in such a world
@@ -71,6 +44,7 @@ module _ (w : Workload) where
     pub ledger : Ledger w s.sequencer.history
     pub reached : AllByRecursion (IsReached (ends (noted s.sequencer.history))) (take s.fired w.events)
     pub fair : AllByRecursion (λ (l : Letter). IsFair (ends (noted s.sequencer.history)) l.message) (link links 0 1)
+    pub within : (k : ℕ) → k < w.sites → AllByRecursion (IsUpTo (last_session (noted s.sequencer.history) (site (k + 1)))) (link links (k + 2) 1)
     pub each : (k : ℕ) (state : SiteState) → slice_get s.sites k ≡ Some state → LivesIn s.fired s.sequencer.history s.sequencer.announced links k state
 
   -- the same site on links that are the same
@@ -181,6 +155,8 @@ module _ (w : Workload) where
       ledger = holds.ledger;
       reached = reached;
       fair = left_fair outs;
+      within = λ k inside. subst (AllByRecursion (IsUpTo (last_session (noted s.sequencer.history) (site (k + 1)))))
+          (sym (moved_other (w.sites + 2) links 0 from 0 clock rest outs holds.square some_server (k + 2) 1 (omega (arith, inside)) (λ q. omega (arith, q)) (inl (λ q. omega (arith, q))))) (holds.within k inside);
       each = each;
     }
 

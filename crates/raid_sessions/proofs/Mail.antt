@@ -7,6 +7,7 @@ use Rattle.std.proofs.lemmas.Bool.{eqb-true}
 use Rattle.raid_message.specs.declared.letter.Letter.{Letter}
 use Rattle.raid_steps.specs.State.{Out}
 use Rattle.raid_steps.specs.World.{link, set_link, post}
+use Rattle.raid_sessions.proofs.Lists.{set_long}
 
 -- two numbers are the same or not
 pub same_or_not : (a b : ℕ) → (a ≡ b) ⊎ (a ≢ b)
@@ -19,11 +20,6 @@ same_or_not (suc a) (suc b) = elim (same_or_not a b) [
 ]
 
 -- setting an element of a list
-set_long : {X : Type 0} (xs : List X) (k : ℕ) (y : X) → length (slice_set xs k y) ≡ length xs
-set_long [] k y = refl
-set_long (x ∷ xs) zero y = refl
-set_long (x ∷ xs) (suc k) y = ap suc (set_long xs k y)
-
 pub set_same : {X : Type 0} (xs : List X) (k : ℕ) (y d : X) → k < length xs → slice_index_or (slice_set xs k y) k d ≡ y
 set_same [] k y d below = absurd (omega (arith, below))
 set_same (x ∷ xs) zero y d below = refl

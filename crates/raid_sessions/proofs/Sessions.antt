@@ -18,6 +18,7 @@ use Rattle.raid_steps.specs.State.{Out}
 use Rattle.raid_steps.specs.Table.{is_farewell}
 use Rattle.raid_steps.specs.Sequencer.{is_hello}
 use Rattle.raid_sessions.proofs.Events.{of_site, is_order_of, orders, orders_append, orders_cons}
+use Rattle.raid_sessions.proofs.Lists.{not_false, all_append}
 use Rattle.raid_sessions.proofs.Mail.{letter_of, letters_to}
 use Rattle.raid_sessions.proofs.Site.{is_plain}
 
@@ -71,19 +72,11 @@ none_said test never c session clock (out ∷ outs) q =
     go true n rest = ap (λ b. if b then session ∷ said test (letters_to c session clock outs) else said test (letters_to c session clock outs)) n ∙ rest
     go false n rest = rest
 
-not_false : (b : Bool) → not b ≡ true → b ≡ false
-not_false true q = absurd (true≢false (sym q))
-not_false false q = refl
-
 no_hello : (out : Out) → is_plain out ≡ true → is_hello out.2 ≡ false
 no_hello out q = not_false (is_hello out.2) (and_parts (not (is_hello out.2)) (not (is_farewell out.2)) q).0
 
 no_farewell : (out : Out) → is_plain out ≡ true → is_farewell out.2 ≡ false
 no_farewell out q = not_false (is_farewell out.2) (and_parts (not (is_hello out.2)) (not (is_farewell out.2)) q).1
-
-pub all_append : {X : Type 0} (P : X → Type 0) (xs ys : List X) → AllByRecursion P xs → AllByRecursion P ys → AllByRecursion P (xs ++ ys)
-all_append P [] ys a b = b
-all_append P (x ∷ xs) ys a b = (a.0, all_append P xs ys a.1 b)
 
 abbrev pub IsSome : Letter → Type 0
 IsSome l = 1 ≤ l.from
