@@ -315,18 +315,22 @@ module _ (w : Workload) (s : Servers) (links : List (List (List Letter))) (from 
 
     down_results : (b : Bool) → knows_site w r ≡ b → Results (rows.hear_down w s.sequencer (letters.Down r i))
     down_results true knows =
-        let heard = down_told w last now (ends (noted h)) s.sequencer r i stands knows (down_due knows) in
-        (last, left heard.0, announced, record {
-          told = heard.2;
-          grows = λ x. omega arith;
-          fallen = down_fallen knows heard.0 heard.1;
-          ahead = down_ahead knows heard.0 heard.1;
-          long = set_long a (r.0 - 1) (max i (slice_index a (r.0 - 1)));
-          asked = λ k up_to below q c. absurd (omega (arith, of, q));
-          unasked = λ k below q. refl;
-          heard = λ k up_to xs below q c. down_heard k up_to xs below (within w.sites r.0 knows).0 c;
-          unheard = λ k below q. absurd (q of);
-        })
+        let heard = down_told w last now (ends (noted h)) s.sequencer r i stands knows (down_due knows) in (
+          last,
+          left heard.0,
+          announced,
+          record {
+            told = heard.2;
+            grows = λ x. omega arith;
+            fallen = down_fallen knows heard.0 heard.1;
+            ahead = down_ahead knows heard.0 heard.1;
+            long = set_long a (r.0 - 1) (max i (slice_index a (r.0 - 1)));
+            asked = λ k up_to below q c. absurd (omega (arith, of, q));
+            unasked = λ k below q. refl;
+            heard = λ k up_to xs below q c. down_heard k up_to xs below (within w.sites r.0 knows).0 c;
+            unheard = λ k below q. absurd (q of);
+          },
+        )
     down_results false unknown =
         subst (λ b. Results (if b then rows.finish w s.sequencer (rows.down_row w (opened s.sequencer) r i) else opened s.sequencer)) (sym unknown)
         (last, now, a, same_tells (λ k below q. absurd (omega (arith, of, q))) (λ k below q. ap (news_of (site (k + 1))) down ∙ ap (λ b. if b then i ∷ [] else []) (not_it k below r.0 unknown)) (opened s.sequencer) opened_told)
@@ -356,18 +360,22 @@ module _ (w : Workload) (s : Servers) (links : List (List (List Letter))) (from 
         let gone = stops_due j found.0 found.1 in
         let come = returns_due j found.0 found.1 in
         let few = ended_least found.0.up found.0.session in
-        let heard = hello_told w last now (ends (noted h)) s.sequencer (site (j + 1)) letter.from (holds.placed, holds.quiet) stands (site_known j here) parts.0 (omega (arith, most, gone, few)) (omega (arith, most, come)) (λ late. omega (arith, late, told, gone)) in
-        (changed last (site (j + 1)) letter.from, changed now (site (j + 1)) (if heard.0 then 0 else letter.from), a, record {
-          told = heard.2;
-          grows = λ r. grown r (j + 1 == r.0) refl parts.0;
-          fallen = λ k state found q. hello_fallen heard.0 heard.1 k state found (j + 1 == k + 1) refl parts.0 q;
-          ahead = λ k below q. hello_ahead heard.0 heard.1 k below (j + 1 == k + 1) refl q;
-          long = refl;
-          asked = λ k up_to below q c. (let p = next k up_to c in subst (λ n. Chain n (said is_hello rest) up_to) (sym (ap (λ b. if b then letter.from else last (site (k + 1))) (same_site k q) ∙ p.0)) p.1);
-          unasked = λ k below q. sym (ap (λ b. if b then letter.from else last (site (k + 1))) (other_site k q));
-          heard = λ k up_to xs below q c. absurd (omega (arith, of, q));
-          unheard = λ k below q. refl;
-        })
+        let heard = hello_told w last now (ends (noted h)) s.sequencer (site (j + 1)) letter.from (holds.placed, holds.quiet) stands (site_known j here) parts.0 (omega (arith, most, gone, few)) (omega (arith, most, come)) (λ late. omega (arith, late, told, gone)) in (
+          changed last (site (j + 1)) letter.from,
+          changed now (site (j + 1)) (if heard.0 then 0 else letter.from),
+          a,
+          record {
+            told = heard.2;
+            grows = λ r. grown r (j + 1 == r.0) refl parts.0;
+            fallen = λ k state found q. hello_fallen heard.0 heard.1 k state found (j + 1 == k + 1) refl parts.0 q;
+            ahead = λ k below q. hello_ahead heard.0 heard.1 k below (j + 1 == k + 1) refl q;
+            long = refl;
+            asked = λ k up_to below q c. (let p = next k up_to c in subst (λ n. Chain n (said is_hello rest) up_to) (sym (ap (λ b. if b then letter.from else last (site (k + 1))) (same_site k q) ∙ p.0)) p.1);
+            unasked = λ k below q. sym (ap (λ b. if b then letter.from else last (site (k + 1))) (other_site k q));
+            heard = λ k up_to xs below q c. absurd (omega (arith, of, q));
+            unheard = λ k below q. refl;
+          },
+        )
       where
         none : 1 ≤ 0 → ⊥
         none e = omega (arith, e)

@@ -1,7 +1,7 @@
 -- The sequencer's step: where the letters that it hears tell the truth of stops and returns, the entries that it places are due.
 use Rattle.std.proofs.Common.{◌≡◌, ℕ, zero, suc, ◌+◌, ◌-◌, ◌<◌, ◌≤◌, ◌==◌, nat_lt, nat_le, Bool, true, false, not, ◌&&◌, List, [], ◌∷◌, ◌++◌, length, map, Option, Some, None, if◌then◌else◌, arith, sym, subst, ap, ◌∙◌, refl}
 use Rattle.std.specs.Prelude.{⊤, max, filter, flat_map, slice_index, slice_set}
-use Rattle.std.specs.List.{AllByRecursion, list_all}
+use Rattle.std.specs.List.{AllByRecursion}
 use Rattle.std.specs.Option.{option_map_or}
 use Rattle.std.proofs.lemmas.Bool.{and_parts, and_from, eqb-true, true≢false}
 use Rattle.raid_base.specs.declared.names.Txn.{Txn}
@@ -147,10 +147,13 @@ module _ (w : Workload) where
 
   -- such a letter is good
   site_good : (h : List Entry) (L : Site → ℕ) → Ledger w h → ((s : Site) → last_session (noted h) s ≡ L s) → (s : Site) (m : Message) → is_count m ≡ false → IsGood L (to_site (vector w (noted h)) s m)
-  site_good h L l lasts s m q = (q, λ k below to. (let here : site (k + 1) ≡ s = ap (λ n. let x : Site = record { 0 = n } in x) (omega (arith, to)) in
-    let known : knows_site w (site (k + 1)) ≡ true = number_known w k (omega (arith, below)) in
-    let most = session_most w h (site (k + 1)) l known in
-    subst (λ n. session (vector w (noted h)) s ≤ n) (lasts (site (k + 1))) (subst (λ x. session (vector w (noted h)) x ≤ last_session (noted h) (site (k + 1))) here most)))
+  site_good h L l lasts s m q = (
+    q,
+    λ k below to. (let here : site (k + 1) ≡ s = ap (λ n. let x : Site = record { 0 = n } in x) (omega (arith, to)) in
+        let known : knows_site w (site (k + 1)) ≡ true = number_known w k (omega (arith, below)) in
+        let most = session_most w h (site (k + 1)) l known in
+        subst (λ n. session (vector w (noted h)) s ≤ n) (lasts (site (k + 1))) (subst (λ x. session (vector w (noted h)) x ≤ last_session (noted h) (site (k + 1))) here most)),
+  )
 
   still_good : (L M : Site → ℕ) → ((s : Site) → L s ≤ M s) → (outs : List Out) → AllByRecursion (IsGood L) outs → AllByRecursion (IsGood M) outs
   still_good L M le outs good = all_weaken (IsGood L) (IsGood M) outs (λ out g. (g.0, λ k below to. (let most = g.1 k below to in let more = le (site (k + 1)) in omega (arith, most, more)))) good
@@ -344,9 +347,12 @@ module _ (w : Workload) where
 
   pub down_told : (L V : Site → ℕ) (n : ℕ) (state : Sequencer) (s : Site) (i : ℕ) → Stands L V n state.announced (opened state) → knows_site w s ≡ true → i ≤ due_of n true s w.events →
       (b : Bool) × (is_last state s i ≡ b) × Told L (λ r. if b then changed V s 0 r else V r) n (slice_set state.announced (s.0 - 1) (max i (slice_index state.announced (s.0 - 1)))) (rows.hear_down w state (letters.Down s i))
-  down_told L V n state s i k known enough =
-      (is_last state s i, refl, subst (λ b. Told L (λ r. if is_last state s i then changed V s 0 r else V r) n after (if b then finish w state (rows.down_row w (opened state) s i) else opened state)) (sym known)
-      (finish_told L (λ r. if is_last state s i then changed V s 0 r else V r) n after state (rows.down_row w (opened state) s i) (go (is_last state s i) refl)))
+  down_told L V n state s i k known enough = (
+    is_last state s i,
+    refl,
+    subst (λ b. Told L (λ r. if is_last state s i then changed V s 0 r else V r) n after (if b then finish w state (rows.down_row w (opened state) s i) else opened state)) (sym known)
+        (finish_told L (λ r. if is_last state s i then changed V s 0 r else V r) n after state (rows.down_row w (opened state) s i) (go (is_last state s i) refl)),
+  )
     where
       after : List ℕ
       after = slice_set state.announced (s.0 - 1) (max i (slice_index state.announced (s.0 - 1)))

@@ -1,7 +1,7 @@
 -- Histories whose stops, returns and renewed copies were due, and how often each site has gone down and come up in them.
-use Rattle.std.proofs.Common.{◌≡◌, ◌≢◌, ◌⊎◌, inl, inr, ℕ, zero, suc, ◌+◌, ◌-◌, ◌<◌, ◌≤◌, ◌==◌, nat_lt, nat_le, Bool, true, false, not, cond, ◌&&◌, List, [], ◌∷◌, ◌++◌, length, replicate, if◌then◌else◌, arith, sym, subst, ap, ◌∙◌, refl}
+use Rattle.std.proofs.Common.{◌≡◌, ◌⊎◌, inl, inr, ℕ, zero, suc, ◌+◌, ◌-◌, ◌<◌, ◌≤◌, ◌==◌, nat_lt, Bool, true, false, not, cond, ◌&&◌, List, [], ◌∷◌, ◌++◌, length, replicate, if◌then◌else◌, arith, sym, subst, ap, ◌∙◌, refl}
 use Rattle.std.specs.Prelude.{slice_index, slice_set}
-use Rattle.std.proofs.lemmas.Bool.{and_parts, and_from, eqb-true, true≢false}
+use Rattle.std.proofs.lemmas.Bool.{and_from, eqb-true, true≢false}
 use Rattle.std.proofs.lemmas.Grind.{common_steps}
 use Rattle.raid_base.specs.declared.names.Site.{Site}
 use Rattle.raid_base.specs.declared.entry.Entry.{Entry}
@@ -20,6 +20,7 @@ use Rattle.raid_legal.proofs.Push.{each_push}
 use Rattle.raid_steps.specs.Fits.{knows_site}
 use Rattle.raid_sessions.specs.Due.{IsDue, AreDue}
 use Rattle.raid_sessions.proofs.Events.{due_of}
+use Rattle.raid_sessions.proofs.Lists.{apart, index_other, is_same, same_self, set_index, within}
 
 -- a site's session, its last one, and how often it has gone down and come up: it came up once for each session after the first, and went
 -- down once for each that has ended
@@ -94,36 +95,16 @@ module _ (w : Workload) where
   still_push h e l q d = ledger_push h e l d (λ s known. account_push (noted h) (next (noted h) e) s (account_still (noted h) e (vector w (noted h)) s q (l.accounts s known)))
 
   -- sites by their places in the vector
-  at_least : (n : ℕ) → (nat_le 1 n && nat_le n w.sites) ≡ true → (1 ≤ n) × (n ≤ w.sites)
-  at_least n q = (let m = and_parts (nat_le 1 n) (nat_le n w.sites) q in (at_most 1 n m.0, at_most n w.sites m.1)) where
-    at_most : (a b : ℕ) → nat_le a b ≡ true → a ≤ b
-    at_most a b q = grind (arith, q)
-
   session_same : (v : List ℕ) (s r : Site) (n : ℕ) → length v ≡ w.sites → knows_site w s ≡ true → (s.0 == r.0) ≡ true → session (slice_set v (s.0 - 1) n) r ≡ n
   session_same v s r n long known same =
-      let bounds = at_least s.0 known in
-      ap (λ k. slice_index (slice_set v (s.0 - 1) n) (k - 1)) (sym (eqb-true s.0 r.0 same)) ∙ set_index v (s.0 - 1) (omega (arith, bounds.0, bounds.1, long))
-    where
-      set_index : (v : List ℕ) (k : ℕ) → k < length v → slice_index (slice_set v k n) k ≡ n
-      set_index [] k below = absurd (omega (arith, below))
-      set_index (x ∷ xs) zero below = refl
-      set_index (x ∷ xs) (suc k) below = set_index xs k (omega (arith, below))
+      let bounds = within w.sites s.0 known in
+      ap (λ k. slice_index (slice_set v (s.0 - 1) n) (k - 1)) (sym (eqb-true s.0 r.0 same)) ∙ set_index v (s.0 - 1) n (omega (arith, bounds.0, bounds.1, long))
 
   session_other : (v : List ℕ) (s r : Site) (n : ℕ) → knows_site w s ≡ true → knows_site w r ≡ true → (s.0 == r.0) ≡ false → session (slice_set v (s.0 - 1) n) r ≡ session v r
   session_other v s r n known known_too differ =
-      let bounds = at_least s.0 known in
-      let bounds_too = at_least r.0 known_too in
-      set_other v (s.0 - 1) (r.0 - 1) (apart s.0 r.0 differ bounds.0 bounds_too.0)
-    where
-      apart : (a b : ℕ) → (a == b) ≡ false → 1 ≤ a → 1 ≤ b → b - 1 ≢ a - 1
-      apart a b q low high e = grind (arith, q, low, high, e)
-
-      set_other : (v : List ℕ) (k j : ℕ) → j ≢ k → slice_index (slice_set v k n) j ≡ slice_index v j
-      set_other [] k j other = refl
-      set_other (x ∷ xs) zero zero other = absurd (other refl)
-      set_other (x ∷ xs) zero (suc j) other = refl
-      set_other (x ∷ xs) (suc k) zero other = refl
-      set_other (x ∷ xs) (suc k) (suc j) other = set_other xs k j (λ q. other (ap suc q))
+      let bounds = within w.sites s.0 known in
+      let bounds_too = within w.sites r.0 known_too in
+      index_other v (s.0 - 1) (r.0 - 1) n (apart s.0 r.0 differ bounds.0 bounds_too.0)
 
   -- a site that is up is in its last session
   up_is : (n : ℕ) → nat_lt 0 n ≡ true → 1 ≤ n
@@ -185,9 +166,6 @@ module _ (w : Workload) where
       (and_from (not (is_up w (noted h) s)) (n == last_session (noted h) s + 1) (ap not down) (is_same n (last_session (noted h) s + 1) follows)) short)
       (λ r known_too. account_push (noted h) (next (noted h) (Up s n)) r (go r known_too (s.0 == r.0) refl))
     where
-      is_same : (a b : ℕ) → a ≡ b → (a == b) ≡ true
-      is_same a b q = grind (arith, q)
-
       same_site : (s r : Site) → (s.0 == r.0) ≡ true → s ≡ r
       same_site s r e = ap (λ k. let x : Site = record { 0 = k } in x) (eqb-true s.0 r.0 e)
 
@@ -207,10 +185,7 @@ module _ (w : Workload) where
   pub up_risen : (h : List Entry) (s : Site) (n : ℕ) → Ledger w h → knows_site w s ≡ true → 1 ≤ n → is_up w (noted (h ++ Up s n ∷ [])) s ≡ true
   up_risen h s n l known some =
       ap (λ p. is_up w p s) (noted_push h (Up s n)) ∙ ap (λ v. nat_lt 0 (session v s)) (vector_push w.sites (noted h) (next (noted h) (Up s n)))
-      ∙ ap (nat_lt 0) (session_same (vector w (noted h)) s s n l.long known (same s.0)) ∙ below 0 n (omega (arith, some))
-    where
-      same : (k : ℕ) → (k == k) ≡ true
-      same k = grind arith
+      ∙ ap (nat_lt 0) (session_same (vector w (noted h)) s s n l.long known (same_self s.0)) ∙ below 0 n (omega (arith, some))
 
   -- what becomes of a site's session
   session_push : (h : List Entry) (e : Entry) (s : Site) → session (vector w (noted (h ++ e ∷ []))) s ≡ session (turn_vector (vector w (noted h)) e) s
@@ -273,9 +248,12 @@ module _ (w : Workload) where
   one_at (suc n) zero below = refl
   one_at (suc n) (suc k) below = one_at n k (omega (arith, below))
 
+  pub opening_session : (s : Site) → knows_site w s ≡ true → session (vector w []) s ≡ 1
+  opening_session s known = (let bounds = within w.sites s.0 known in one_at w.sites (s.0 - 1) (omega (arith, bounds.0, bounds.1)))
+
   pub opening_ledger : Ledger w []
   opening_ledger = record {
     due = tt;
     long = ones w.sites;
-    accounts = λ s known. (let bounds = at_least s.0 known in account_is (one_at w.sites (s.0 - 1) (omega (arith, bounds.0, bounds.1))) refl refl refl (record { first = omega arith; come = omega arith; gone = inr (refl, omega arith) }));
+    accounts = λ s known. account_is (opening_session s known) refl refl refl (record { first = omega arith; come = omega arith; gone = inr (refl, omega arith) });
   }

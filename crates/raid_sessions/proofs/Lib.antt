@@ -1,3 +1,4 @@
+pub mod Agreed
 pub mod AtSequencer
 pub mod AtSites
 pub mod Events

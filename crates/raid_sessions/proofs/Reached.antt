@@ -12,12 +12,14 @@ use Rattle.raid_message.specs.declared.letter.Pick.{Pick}
 use Rattle.raid_steps.specs.State.{SiteState}
 use Rattle.raid_steps.specs.Site.{hear_site}
 use Rattle.raid_steps.specs.World.{World, Servers, hear, hear_at, session_of, link, take_front, pick, run, open_world, first_links, first_site}
+use Rattle.raid_steps.proofs.Parts.{number_known}
 use Rattle.raid_placed.proofs.Opening.{opening_placed, opening_quiet}
 use Rattle.raid_sessions.specs.Due.{AreDue}
 use Rattle.raid_sessions.proofs.AtSequencer.{sequencer_holds}
 use Rattle.raid_sessions.proofs.AtSites.{site_holds}
-use Rattle.raid_sessions.proofs.Holds.{get_below, get_set, LivesIn, Holds, lives_is, monitor_holds}
-use Rattle.raid_sessions.proofs.Ledger.{opening_ledger}
+use Rattle.raid_sessions.proofs.Holds.{IsUpTo, LivesIn, Holds, lives_is, monitor_holds}
+use Rattle.raid_sessions.proofs.Lists.{get_below, get_set}
+use Rattle.raid_sessions.proofs.Ledger.{opening_session, opening_ledger}
 use Rattle.raid_sessions.proofs.Mail.{AreSquare, moved}
 use Rattle.raid_sessions.proofs.Sessions.{Lives}
 use Rattle.raid_sessions.proofs.Site.{site_step}
@@ -65,7 +67,7 @@ module _ (n : ℕ) (links : List (List (List Letter))) (server from : ℕ) (l : 
       go false q = (let beyond = lt_or server n q in let long = square.long in absurd (no_letter l rest (sym (ap (λ row. slice_index_or row from []) (past links server [] (omega (arith, beyond, long)))) ∙ front)))
 
 module _ (w : Workload) where
-  abbrev Reached : World → Type 0
+  abbrev pub Reached : World → Type 0
   Reached s = Holds w s.servers s.links
 
   -- a site's step, if there is such a site
@@ -158,10 +160,25 @@ module _ (w : Workload) where
   open_lives : (k : ℕ) (state : SiteState) → slice_get (map (first_site w) (sites w)) k ≡ Some state → LivesIn w 0 [] (replicate w.sites 0) (open_world w).links k state
   open_lives k state q =
       let first = first_up (sites w) k state q in
+      let below : k < w.sites = (let inside = get_below (map (first_site w) (sites w)) k state q in let e = map_long (first_site w) (sites w) in let f = sites_long in omega (arith, inside, e, f)) in
+      let one = opening_session w (site (k + 1)) (number_known w k (omega (arith, below))) in
+      let none = zero_at w.sites ((site (k + 1)).0 - 1) in
       subst (λ u. Lives w k u state.session 0 [] (replicate w.sites 0) (link (open_world w).links (k + 2) 0) (link (open_world w).links 0 (k + 2)) (link (open_world w).links 1 (k + 2)) (link (open_world w).links 1 0)) (sym first.0)
       (subst (λ n. Lives w k true n 0 [] (replicate w.sites 0) (link (open_world w).links (k + 2) 0) (link (open_world w).links 0 (k + 2)) (link (open_world w).links 1 (k + 2)) (link (open_world w).links 1 0)) (sym first.1)
       (lives_is w 0 [] (replicate w.sites 0) k true 1 (open_commands k) (same_at (w.sites + 2) (k + 2) []) (same_at (w.sites + 2) (k + 2) []) (same_at (w.sites + 2) 0 [])
-      (record { opened = refl; some = tt; closed = zero_at w.sites ((site (k + 1)).0 - 1); stops = omega arith; returns = omega arith })))
+      (record { opened = refl; some = tt; closed = none; fallen = λ e. omega (arith, e, one); ahead = λ e. omega (arith, one, none); stops = omega arith; returns = omega arith })))
+
+  -- each site's welcome is for its first session
+  first_within : (ss : List Site) (k : ℕ) → AllByRecursion (IsUpTo 1) (slice_index_or (slice_index_or (map (first_links w) ss) k []) 1 [])
+  first_within [] k = tt
+  first_within (s ∷ ss) zero = (omega arith, tt)
+  first_within (s ∷ ss) (suc k) = first_within ss k
+
+  open_within : (k : ℕ) → AllByRecursion (IsUpTo 1) (link (open_world w).links (k + 2) 1)
+  open_within k = subst (λ c. AllByRecursion (IsUpTo 1) (link (open_world w).links c 1)) (place k) (first_within (sites w) k)
+    where
+      place : (k : ℕ) → suc (suc k) ≡ k + 2
+      place k = omega arith
 
   open_reached : Reached (open_world w)
   open_reached = record {
@@ -173,10 +190,11 @@ module _ (w : Workload) where
     ledger = opening_ledger w;
     reached = tt;
     fair = subst (AllByRecursion _) (sym (same_at (w.sites + 2) 1 [])) tt;
+    within = λ k below. open_within k;
     each = open_lives;
   }
 
-  reached : (schedule : List Pick) → Reached (run w schedule)
+  pub reached : (schedule : List Pick) → Reached (run w schedule)
   reached schedule = picks_reached (open_world w) schedule open_reached
 
   pub run_due : (schedule : List Pick) → AreDue w (run w schedule).servers.sequencer.history
