@@ -10,3 +10,5 @@ pub mod Mail
 pub mod Reached
 pub mod Sessions
 pub mod Site
+pub mod Speech
+pub mod Timely

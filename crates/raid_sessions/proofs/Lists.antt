@@ -17,9 +17,6 @@ above a b q = grind (arith, q)
 pub is_same : (a b : ℕ) → a ≡ b → (a == b) ≡ true
 is_same a b q = grind (arith, q)
 
-pub is_other : (a b : ℕ) → a ≢ b → (a == b) ≡ false
-is_other a b q = grind (arith, q)
-
 pub same_self : (a : ℕ) → (a == a) ≡ true
 same_self a = grind arith
 
@@ -56,6 +53,18 @@ index_other (x ∷ xs) zero zero n other = absurd (other refl)
 index_other (x ∷ xs) zero (suc j) n other = refl
 index_other (x ∷ xs) (suc k) zero n other = refl
 index_other (x ∷ xs) (suc k) (suc j) n other = index_other xs k j n (λ q. other (ap suc q))
+
+pub set_most : (v : List ℕ) (k n : ℕ) → slice_index (slice_set v k n) k ≤ n
+set_most [] k n = omega arith
+set_most (x ∷ xs) zero n = omega arith
+set_most (x ∷ xs) (suc k) n = set_most xs k n
+
+pub set_less : (v : List ℕ) (k j : ℕ) → slice_index (slice_set v k 0) j ≤ slice_index v j
+set_less [] k j = omega arith
+set_less (x ∷ xs) zero zero = omega arith
+set_less (x ∷ xs) zero (suc j) = omega arith
+set_less (x ∷ xs) (suc k) zero = omega arith
+set_less (x ∷ xs) (suc k) (suc j) = set_less xs k j
 
 pub get_below : {X : Type 0} (xs : List X) (k : ℕ) (x : X) → slice_get xs k ≡ Some x → k < length xs
 get_below [] k x q = absurd (nothing q) where
