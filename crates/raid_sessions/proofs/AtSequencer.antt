@@ -25,8 +25,9 @@ use Rattle.raid_steps.proofs.Parts.{number_known}
 use Rattle.raid_placed.specs.Placed.{Placed}
 use Rattle.raid_placed.proofs.Heard.{hear_placed, hear_quiet}
 use Rattle.raid_sessions.proofs.Events.{of_site, orders, due_of, reached_due, still_reached}
-use Rattle.raid_sessions.proofs.Heard.{IsFair, AreFair, IsWithin, Stands, Told, changed, is_last, down_told, hello_told, row_stands, finish_told}
-use Rattle.raid_sessions.proofs.Holds.{IsUpTo, LivesIn, Holds}
+use Rattle.raid_sessions.proofs.Heard.{IsFair, AreFair, IsTold, Stands, Told, changed, is_last, down_told, hello_told, row_stands, finish_told}
+use Rattle.raid_sessions.proofs.Holds.{last_of, IsHeard, IsSpoken, LivesIn, Holds}
+use Rattle.raid_sessions.proofs.Timely.{still_past, still_note, still_said}
 use Rattle.raid_sessions.proofs.Ledger.{up_last}
 use Rattle.raid_sessions.proofs.Lists.{at_most, above, is_same, apart, within, all_append, all_weaken, set_long, set_index, index_other, get_below, get_known}
 use Rattle.raid_sessions.proofs.Mail.{same_or_not, letter_of, letters_to, moved, moved_square, moved_taken, moved_sent, moved_other}
@@ -48,12 +49,12 @@ fair_sent n c session clock (out ∷ outs) f = go (out.0 == c) (fair_sent n c se
     go true rest = (f.0, rest)
     go false rest = rest
 
-within_sent : (w : Workload) (L : Site → ℕ) (k session clock : ℕ) (outs : List Out) → k < w.sites → AllByRecursion (IsWithin w L) outs → AllByRecursion (IsUpTo (L (site (k + 1)))) (letters_to (k + 2) session clock outs)
-within_sent w L k session clock [] below f = tt
-within_sent w L k session clock (out ∷ outs) below f = go (out.0 == k + 2) refl (within_sent w L k session clock outs below f.1)
+told_sent : (w : Workload) (L : Site → ℕ) (k session clock : ℕ) (outs : List Out) → k < w.sites → AllByRecursion (IsTold w L) outs → AllByRecursion (IsHeard w L k) (letters_to (k + 2) session clock outs)
+told_sent w L k session clock [] below f = tt
+told_sent w L k session clock (out ∷ outs) below f = go (out.0 == k + 2) refl (told_sent w L k session clock outs below f.1)
   where
-    go : (b : Bool) → (out.0 == k + 2) ≡ b → AllByRecursion (IsUpTo (L (site (k + 1)))) (letters_to (k + 2) session clock outs) →
-        AllByRecursion (IsUpTo (L (site (k + 1)))) (if b then letter_of session clock out ∷ letters_to (k + 2) session clock outs else letters_to (k + 2) session clock outs)
+    go : (b : Bool) → (out.0 == k + 2) ≡ b → AllByRecursion (IsHeard w L k) (letters_to (k + 2) session clock outs) →
+        AllByRecursion (IsHeard w L k) (if b then letter_of session clock out ∷ letters_to (k + 2) session clock outs else letters_to (k + 2) session clock outs)
     go true q rest = (f.0 k below (eqb-true out.0 (k + 2) q), rest)
     go false q rest = rest
 
@@ -157,6 +158,15 @@ module _ (w : Workload) (s : Servers) (links : List (List (List Letter))) (from 
           (sym (moved_other (w.sites + 2) links 1 from 0 clock rest turn.outs holds.square inside 1 0 inside (λ r. omega (arith, r)) (inr (λ r. q (sym r)))))
           (subst (λ n. Chain n (news (site (k + 1)) (link links 1 0) ++ said is_farewell (link links 0 (k + 2))) (ended state.up state.session)) (tells.unheard k below q) mine.closed)
 
+    abbrev after_lasts : Site → ℕ
+    after_lasts = last_of turn.state.history
+
+    grown : (r : Site) → last r ≤ after_lasts r
+    grown r = (let more = tells.grows r in let same = tells.told.lasts r in omega (arith, more, same))
+
+    same_lasts : (r : Site) → L r ≤ after_lasts r
+    same_lasts r = (let same = tells.told.lasts r in omega (arith, same))
+
     sequencer_after : Placed w turn.state.history → forced w (so_far turn) ≡ None → Holds w (record s { sequencer = turn.state }) after
     sequencer_after placed quiet = record {
       square = moved_square (w.sites + 2) links 1 from 0 clock rest turn.outs holds.square inside;
@@ -169,11 +179,13 @@ module _ (w : Workload) (s : Servers) (links : List (List (List Letter))) (from 
       fair = subst (AllByRecursion (λ (l : Letter). IsFair (ends (so_far turn)) l.message)) (sym (moved_sent (w.sites + 2) links 1 from 0 clock rest turn.outs holds.square inside 0 (omega arith) (λ q. omega (arith, q))))
           (all_append (λ (l : Letter). IsFair (ends (so_far turn)) l.message) (link links 0 1) (letters_to 0 0 clock turn.outs)
           (all_later (ends (noted h)) (ends (so_far turn)) (link links 0 1) tells.told.counted holds.fair) (fair_sent (ends (so_far turn)) 0 0 clock turn.outs tells.told.fair));
-      within = λ k below. subst (λ n. AllByRecursion (IsUpTo n) (link after (k + 2) 1)) (sym (tells.told.lasts (site (k + 1))))
-          (subst (AllByRecursion (IsUpTo (L (site (k + 1))))) (sym (moved_sent (w.sites + 2) links 1 from 0 clock rest turn.outs holds.square inside (k + 2) (omega (arith, below)) (λ q. omega (arith, q))))
-          (all_append (IsUpTo (L (site (k + 1)))) (link links (k + 2) 1) (letters_to (k + 2) 0 clock turn.outs)
-          (all_weaken (IsUpTo (last (site (k + 1)))) (IsUpTo (L (site (k + 1)))) (link links (k + 2) 1) (λ l q. (let more = tells.grows (site (k + 1)) in omega (arith, q, more))) (holds.within k below))
-          (within_sent w L k 0 clock turn.outs below tells.told.within)));
+      heard = λ k below. subst (AllByRecursion (IsHeard w after_lasts k)) (sym (moved_sent (w.sites + 2) links 1 from 0 clock rest turn.outs holds.square inside (k + 2) (omega (arith, below)) (λ q. omega (arith, q))))
+          (all_append (IsHeard w after_lasts k) (link links (k + 2) 1) (letters_to (k + 2) 0 clock turn.outs)
+          (all_weaken (IsHeard w last k) (IsHeard w after_lasts k) (link links (k + 2) 1) (λ l q. (let more = grown (site (k + 1)) in let most = q.0 in omega (arith, most, more), still_note w last after_lasts grown l.message q.1)) (holds.heard k below))
+          (all_weaken (IsHeard w L k) (IsHeard w after_lasts k) (letters_to (k + 2) 0 clock turn.outs) (λ l q. (let same = same_lasts (site (k + 1)) in let most = q.0 in omega (arith, most, same), still_note w L after_lasts same_lasts l.message q.1)) (told_sent w L k 0 clock turn.outs below tells.told.told)));
+      spoken = λ k j below below_too. subst (AllByRecursion (IsSpoken w after_lasts k j)) (sym (moved_other (w.sites + 2) links 1 from 0 clock rest turn.outs holds.square inside (k + 2) (j + 2) (omega (arith, below)) (λ q. omega (arith, q)) (inl (λ q. omega (arith, q)))))
+          (all_weaken (IsSpoken w last k j) (IsSpoken w after_lasts k j) (link links (k + 2) (j + 2)) (λ l q. (let more = grown (site (k + 1)) in let most = q.0 in omega (arith, most, more), still_said w last after_lasts grown (site (j + 1)) l.from l.message q.1)) (holds.spoken k j below below_too));
+      vectors = λ k state here r. still_past w last after_lasts grown r (session state.vector r) (holds.vectors k state here r);
       each = site_after;
     }
 
@@ -212,7 +224,7 @@ module _ (w : Workload) (s : Servers) (links : List (List (List Letter))) (from 
   }
 
   opened_told : Told w last now (ends (noted h)) a (opened s.sequencer)
-  opened_told = record { ledger = holds.ledger; lasts = λ r. refl; sessions = λ r known. refl; counted = omega arith; announced = refl; fair = tt; within = tt }
+  opened_told = record { ledger = holds.ledger; lasts = λ r. refl; sessions = λ r known. refl; counted = omega arith; announced = refl; fair = tt; told = tt }
 
   -- what the step may come to
   abbrev Results : Turn Sequencer → Type 0

@@ -43,6 +43,7 @@ use Rattle.raid_sessions.specs.Due.{IsDue}
 use Rattle.raid_sessions.proofs.Events.{due_of, due_grows}
 use Rattle.raid_sessions.proofs.Ledger.{Ledger, is_still, still_push, down_push, up_push, up_last, up_risen, session_still, session_down, session_up, session_most, last_still, last_down, last_up, ends_grow}
 use Rattle.raid_sessions.proofs.Lists.{at_most, same_self, all_append, all_weaken}
+use Rattle.raid_sessions.proofs.Timely.{IsPast, ArePast, IsNote, still_note, IsWithin, within_site, still_within}
 
 -- what a count of ends may say: no more than there are
 abbrev pub IsFair : ℕ → Message → Type 0
@@ -52,9 +53,9 @@ IsFair n other = ⊤
 abbrev pub AreFair : ℕ → List Out → Type 0
 AreFair n outs = AllByRecursion (λ (out : Out). IsFair n out.2) outs
 
-silent_fair : (n : ℕ) (m : Message) → is_count m ≡ false → IsFair n m
-silent_fair n (letters.Ends count) q = absurd (true≢false q)
-silent_fair n other q = tt
+note_fair : (w : Workload) (L : Site → ℕ) (n : ℕ) (m : Message) → IsNote w L m → IsFair n m
+note_fair w L n (letters.Ends count) q = absurd q
+note_fair w L n other q = tt
 
 -- an entry that no site's stop or return, and no renewed copy, is told by
 abbrev IsCalm : Entry → Type 0
@@ -74,13 +75,12 @@ abbrev pub changed : (Site → ℕ) → Site → ℕ → Site → ℕ
 changed L s i r = if is_site r s then i else L r
 
 module _ (w : Workload) where
-  -- a letter to a site is meant for none after the site's last session, which L has
-  abbrev pub IsWithin : (Site → ℕ) → Out → Type 0
-  IsWithin L out = (k : ℕ) → k < w.sites → out.0 ≡ k + 2 → out.1 ≤ L (site (k + 1))
-
-  -- and it is no count of ends
+  -- a letter to a site is meant for none after the site's last session, which L has, and says nothing of later ones
   abbrev pub IsGood : (Site → ℕ) → Out → Type 0
-  IsGood L out = (is_count out.2 ≡ false) × IsWithin L out
+  IsGood L out = IsNote w L out.2 × IsWithin w L out
+
+  abbrev pub IsTold : (Site → ℕ) → Out → Type 0
+  IsTold L out = (k : ℕ) → k < w.sites → out.0 ≡ k + 2 → (out.1 ≤ L (site (k + 1))) × IsNote w L out.2
 
   -- a turn: its history is due so far; L has each site's last session and V its present one, at least so many transactions have ended, and
   -- these sessions' ends were announced
@@ -100,7 +100,7 @@ module _ (w : Workload) where
     pub counted : n ≤ ends (so_far turn)
     pub announced : turn.state.announced ≡ a
     pub fair : AreFair (ends (so_far turn)) turn.outs
-    pub within : AllByRecursion (IsWithin L) turn.outs
+    pub told : AllByRecursion (IsTold L) turn.outs
 
   calm_due : (p : List Noted) (e : Entry) → IsCalm e → IsDue w p e
   calm_due p (Down s) c = absurd c
@@ -108,9 +108,18 @@ module _ (w : Workload) where
   calm_due p (Clear s x v) c = absurd c
   calm_due p other c = tt
 
+  -- an Up is in a session that L has
+  abbrev IsOpened : (Site → ℕ) → Entry → Type 0
+  IsOpened L (Up s n) = IsPast w L s n
+  IsOpened L other = ⊤
+
+  still_opened : (L : Site → ℕ) (e : Entry) → is_still e ≡ true → IsOpened L e
+  still_opened L (Up s n) q = absurd (true≢false (sym q))
+  still_opened L other q = tt
+
   -- what entries send is told to sites, in their sessions
-  module _ (P : Out → Type 0) (p : List Noted) (each : (s : Site) (m : Message) → is_count m ≡ false → P (to_site (vector w p) s m)) where
-    notes_each : (m : Message) (ss : List Site) → is_count m ≡ false → AllByRecursion P (map (λ s. to_site (vector w p) s m) ss)
+  module _ (P : Out → Type 0) (p : List Noted) (L : Site → ℕ) (past : ArePast w L (vector w p)) (each : (s : Site) (m : Message) → IsNote w L m → P (to_site (vector w p) s m)) where
+    notes_each : (m : Message) (ss : List Site) → IsNote w L m → AllByRecursion P (map (λ s. to_site (vector w p) s m) ss)
     notes_each m [] q = tt
     notes_each m (s ∷ ss) q = (each s m q, notes_each m ss q)
 
@@ -129,40 +138,36 @@ module _ (w : Workload) where
         let done : Out = to_site (vector w p) s (letters.Done t) in
         all_append P (rows.commit_sends w p t applied s) (flat_map (rows.commit_sends w p t applied) ss)
         (all_append P (if has_site applied s then apply ∷ [] else []) (if is_site s (home w t) && is_up w p s then done ∷ [] else [])
-        (one_if (has_site applied s) apply (each s (letters.Apply t (length p)) refl)) (one_if (is_site s (home w t) && is_up w p s) done (each s (letters.Done t) refl)))
+        (one_if (has_site applied s) apply (each s (letters.Apply t (length p)) tt)) (one_if (is_site s (home w t) && is_up w p s) done (each s (letters.Done t) tt)))
         (commits_each t applied ss)
 
-    sends_each : (ask : ℕ) (e : Entry) → AllByRecursion P (rows.sends w p ask e)
-    sends_each ask (Read t x s) =
-        (each s (letters.ReadDo t ask x (home w t) (session (vector w p) (home w t))) refl, none_if (is_site s (home w t)) (to_site (vector w p) (home w t) (letters.Serving t ask s)) (each (home w t) (letters.Serving t ask s) refl))
-    sends_each ask (Commit t request applied) = commits_each t applied (sites w)
-    sends_each ask (Abort t cause act) = notes_each (rows.drop_of w t cause) (filter (is_up w p) (sites w)) refl
-    sends_each ask (Down s) = notes_each (letters.DownNote s) (filter (is_up w p) (sites w)) refl
-    sends_each ask (Up s n) = (each s (letters.Welcome (vector w p) (rows.next_number w p s)) refl, notes_each (letters.UpNote s n) (filter (λ r. is_up w p r && not (is_site s r)) (sites w)) refl)
-    sends_each ask other = tt
+    sends_each : (ask : ℕ) (e : Entry) → IsOpened L e → AllByRecursion P (rows.sends w p ask e)
+    sends_each ask (Read t x s) q =
+        (each s (letters.ReadDo t ask x (home w t) (session (vector w p) (home w t))) (past (home w t)), none_if (is_site s (home w t)) (to_site (vector w p) (home w t) (letters.Serving t ask s)) (each (home w t) (letters.Serving t ask s) tt))
+    sends_each ask (Commit t request applied) q = commits_each t applied (sites w)
+    sends_each ask (Abort t cause act) q = notes_each (rows.drop_of w t cause) (filter (is_up w p) (sites w)) tt
+    sends_each ask (Down s) q = notes_each (letters.DownNote s) (filter (is_up w p) (sites w)) tt
+    sends_each ask (Up s n) q = (each s (letters.Welcome (vector w p) (rows.next_number w p s)) past, notes_each (letters.UpNote s n) (filter (λ r. is_up w p r && not (is_site s r)) (sites w)) q)
+    sends_each ask other q = tt
 
     copies_each : (due : List Copying) → AllByRecursion P (map (rows.copy_out (vector w p)) due)
     copies_each [] = tt
-    copies_each (c ∷ due) = (each c.source (letters.CopyDo c.item c.target (session (vector w p) c.target)) refl, copies_each due)
+    copies_each (c ∷ due) = (each c.source (letters.CopyDo c.item c.target (session (vector w p) c.target)) (past c.target), copies_each due)
 
   -- such a letter is good
-  site_good : (h : List Entry) (L : Site → ℕ) → Ledger w h → ((s : Site) → last_session (noted h) s ≡ L s) → (s : Site) (m : Message) → is_count m ≡ false → IsGood L (to_site (vector w (noted h)) s m)
-  site_good h L l lasts s m q = (
-    q,
-    λ k below to. (let here : site (k + 1) ≡ s = ap (λ n. let x : Site = record { 0 = n } in x) (omega (arith, to)) in
-        let known : knows_site w (site (k + 1)) ≡ true = number_known w k (omega (arith, below)) in
-        let most = session_most w h (site (k + 1)) l known in
-        subst (λ n. session (vector w (noted h)) s ≤ n) (lasts (site (k + 1))) (subst (λ x. session (vector w (noted h)) x ≤ last_session (noted h) (site (k + 1))) here most)),
-  )
+  vector_past : (h : List Entry) (L : Site → ℕ) → Ledger w h → ((s : Site) → last_session (noted h) s ≡ L s) → ArePast w L (vector w (noted h))
+  vector_past h L l lasts s known = subst (λ n. session (vector w (noted h)) s ≤ n) (lasts s) (session_most w h s l known)
 
-  still_good : (L M : Site → ℕ) → ((s : Site) → L s ≤ M s) → (outs : List Out) → AllByRecursion (IsGood L) outs → AllByRecursion (IsGood M) outs
-  still_good L M le outs good = all_weaken (IsGood L) (IsGood M) outs (λ out g. (g.0, λ k below to. (let most = g.1 k below to in let more = le (site (k + 1)) in omega (arith, most, more)))) good
+  site_good : (h : List Entry) (L : Site → ℕ) → ArePast w L (vector w (noted h)) → (s : Site) (m : Message) → IsNote w L m → IsGood L (to_site (vector w (noted h)) s m)
+  site_good h L past s m q = (q, within_site w L s (session (vector w (noted h)) s) m (past s))
 
-  placed_good : (ask : ℕ) (turn : Turn Sequencer) (e : Entry) (L M : Site → ℕ) → Ledger w (turn.state.history ++ e ∷ []) → ((s : Site) → last_session (noted (turn.state.history ++ e ∷ [])) s ≡ M s) → ((s : Site) → L s ≤ M s) →
+  placed_good : (ask : ℕ) (turn : Turn Sequencer) (e : Entry) (L M : Site → ℕ) → Ledger w (turn.state.history ++ e ∷ []) → ((s : Site) → last_session (noted (turn.state.history ++ e ∷ [])) s ≡ M s) → ((s : Site) → L s ≤ M s) → IsOpened M e →
       AllByRecursion (IsGood L) turn.outs → AllByRecursion (IsGood M) (place w ask turn e).outs
-  placed_good ask turn e L M l lasts le good =
+  placed_good ask turn e L M l lasts le opened good =
       let h = turn.state.history ++ e ∷ [] in
-      all_append (IsGood M) turn.outs (rows.sends w (noted h) ask e) (still_good L M le turn.outs good) (sends_each (IsGood M) (noted h) (site_good h M l lasts) ask e)
+      let past = vector_past h M l lasts in
+      all_append (IsGood M) turn.outs (rows.sends w (noted h) ask e) (all_weaken (IsGood L) (IsGood M) turn.outs (λ out g. (still_note w L M le out.2 g.0, still_within w L M le out g.1)) good)
+      (sends_each (IsGood M) (noted h) M past (site_good h M past) ask e opened)
 
   -- placing an entry
   module _ (L V : Site → ℕ) (n : ℕ) (a : List ℕ) where
@@ -185,7 +190,7 @@ module _ (w : Workload) where
           sessions = λ s known. session_still w turn.state.history e s q ∙ k.sessions s known;
           counted = later turn e k.counted;
           announced = k.announced;
-          good = placed_good ask turn e L L ledger lasts no_less k.good;
+          good = placed_good ask turn e L L ledger lasts no_less (still_opened L e q) k.good;
         }
 
     calm_stands : (ask : ℕ) (turn : Turn Sequencer) (e : Entry) → Kept turn → IsCalm e → Kept (place w ask turn e)
@@ -201,7 +206,7 @@ module _ (w : Workload) where
           sessions = λ r known_too. session_down w turn.state.history s r k.ledger known known_too ∙ ap (λ m. if is_site r s then 0 else m) (k.sessions r known_too);
           counted = later turn (Down s) k.counted;
           announced = k.announced;
-          good = placed_good 0 turn (Down s) L L ledger lasts no_less k.good;
+          good = placed_good 0 turn (Down s) L L ledger lasts no_less tt k.good;
         }
 
     -- settling
@@ -234,8 +239,8 @@ module _ (w : Workload) where
           sessions = k.sessions;
           counted = k.counted;
           announced = k.announced;
-          fair = all_append (λ (out : Out). IsFair now out.2) sent counts (all_weaken (IsGood L) (λ (out : Out). IsFair now out.2) sent (λ out g. silent_fair now out.2 g.0) all_good) (one_fair (nat_lt (ends (noted state.history)) now));
-          within = all_append (IsWithin L) sent counts (all_weaken (IsGood L) (IsWithin L) sent (λ out g. g.1) all_good) (one_within (nat_lt (ends (noted state.history)) now));
+          fair = all_append (λ (out : Out). IsFair now out.2) sent counts (all_weaken (IsGood L) (λ (out : Out). IsFair now out.2) sent (λ out g. note_fair w L now out.2 g.0) all_good) (one_fair (nat_lt (ends (noted state.history)) now));
+          told = all_append (IsTold L) sent counts (all_weaken (IsGood L) (IsTold L) sent (λ out g. λ k below to. (g.1 k below to, g.0)) all_good) (one_told (nat_lt (ends (noted state.history)) now));
         } where
           now : ℕ
           now = ends (so_far turn)
@@ -249,16 +254,19 @@ module _ (w : Workload) where
           counts : List Out
           counts = if nat_lt (ends (noted state.history)) now then (0, 0, letters.Ends now) ∷ [] else []
 
+          past : ArePast w L (vector w (so_far turn))
+          past = vector_past turn.state.history L k.ledger k.lasts
+
           all_good : AllByRecursion (IsGood L) sent
-          all_good = all_append (IsGood L) turn.outs (map (rows.copy_out (vector w (so_far turn))) due) k.good (copies_each (IsGood L) (so_far turn) (site_good turn.state.history L k.ledger k.lasts) due)
+          all_good = all_append (IsGood L) turn.outs (map (rows.copy_out (vector w (so_far turn))) due) k.good (copies_each (IsGood L) (so_far turn) L past (site_good turn.state.history L past) due)
 
           one_fair : (b : Bool) → AreFair now (let outs : List Out = (if b then (0, 0, letters.Ends now) ∷ [] else []) in outs)
           one_fair true = (omega arith, tt)
           one_fair false = tt
 
-          one_within : (b : Bool) → AllByRecursion (IsWithin L) (let outs : List Out = (if b then (0, 0, letters.Ends now) ∷ [] else []) in outs)
-          one_within true = (λ k below to. absurd (omega (arith, to)), tt)
-          one_within false = tt
+          one_told : (b : Bool) → AllByRecursion (IsTold L) (let outs : List Out = (if b then (0, 0, letters.Ends now) ∷ [] else []) in outs)
+          one_told true = (λ k below to. absurd (omega (arith, to)), tt)
+          one_told false = tt
 
     -- the rows
     abbrev OptCalm : Option Entry → Type 0
@@ -380,7 +388,7 @@ module _ (w : Workload) where
         sessions = λ r known_too. session_up w turn.state.history s i r k.ledger known known_too ∙ ap (λ m. if is_site r s then i else m) (k.sessions r known_too);
         counted = (let more = ends_grow w turn.state.history (Up s i) in let le = k.counted in omega (arith, le, more));
         announced = k.announced;
-        good = placed_good 0 turn (Up s i) L (changed L s i) ledger lasts (λ r. no_fewer r (s.0 == r.0) refl) k.good;
+        good = placed_good 0 turn (Up s i) L (changed L s i) ledger lasts (λ r. no_fewer r (s.0 == r.0) refl) (λ known. subst (λ b. i ≤ (if b then i else L s)) (sym (same_self s.0)) (omega arith)) k.good;
       }
     where
       no_fewer : (r : Site) (b : Bool) → (s.0 == r.0) ≡ b → L r ≤ (if s.0 == r.0 then i else L r)

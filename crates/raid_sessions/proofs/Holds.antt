@@ -23,14 +23,23 @@ use Rattle.raid_sessions.proofs.Events.{IsReached, of_site, orders, of_append, o
 use Rattle.raid_sessions.proofs.Heard.{IsFair}
 use Rattle.raid_sessions.proofs.Ledger.{Ledger}
 use Rattle.raid_sessions.proofs.Lists.{get_below}
+use Rattle.raid_sessions.proofs.Timely.{ArePast, IsNote, IsSaid}
 use Rattle.raid_sessions.proofs.Mail.{same_or_not, AreSquare, letters_to, moved, moved_square, moved_taken, moved_sent, moved_other}
 use Rattle.raid_sessions.proofs.Sessions.{said, news, news_append, Lives, lives_ordered}
 
--- a letter is meant for no session after this one
-abbrev pub IsUpTo : ℕ → Letter → Type 0
-IsUpTo n letter = letter.to ≤ n
+-- the last session of each site in a history
+abbrev pub last_of : List Entry → Site → ℕ
+last_of h s = last_session (noted h) s
 
 module _ (w : Workload) where
+  -- a letter of the sequencer to the site at a place, and one of another site to it: it is meant for a session that the history has, and
+  -- speaks of such
+  abbrev pub IsHeard : (Site → ℕ) → ℕ → Letter → Type 0
+  IsHeard L k letter = (letter.to ≤ L (site (k + 1))) × IsNote w L letter.message
+
+  abbrev pub IsSpoken : (Site → ℕ) → ℕ → ℕ → Letter → Type 0
+  IsSpoken L k j letter = (letter.to ≤ L (site (k + 1))) × IsSaid w L (site (j + 1)) letter.from letter.message
+
   -- a site in such a world
   abbrev pub LivesIn : ℕ → List Entry → List ℕ → List (List (List Letter)) → ℕ → SiteState → Type 0
   LivesIn fired h a links k state = Lives w k state.up state.session fired h a (link links (k + 2) 0) (link links 0 (k + 2)) (link links 1 (k + 2)) (link links 1 0)
@@ -44,7 +53,9 @@ module _ (w : Workload) where
     pub ledger : Ledger w s.sequencer.history
     pub reached : AllByRecursion (IsReached (ends (noted s.sequencer.history))) (take s.fired w.events)
     pub fair : AllByRecursion (λ (l : Letter). IsFair (ends (noted s.sequencer.history)) l.message) (link links 0 1)
-    pub within : (k : ℕ) → k < w.sites → AllByRecursion (IsUpTo (last_session (noted s.sequencer.history) (site (k + 1)))) (link links (k + 2) 1)
+    pub heard : (k : ℕ) → k < w.sites → AllByRecursion (IsHeard (last_of s.sequencer.history) k) (link links (k + 2) 1)
+    pub spoken : (k j : ℕ) → k < w.sites → j < w.sites → AllByRecursion (IsSpoken (last_of s.sequencer.history) k j) (link links (k + 2) (j + 2))
+    pub vectors : (k : ℕ) (state : SiteState) → slice_get s.sites k ≡ Some state → ArePast w (last_of s.sequencer.history) state.vector
     pub each : (k : ℕ) (state : SiteState) → slice_get s.sites k ≡ Some state → LivesIn s.fired s.sequencer.history s.sequencer.announced links k state
 
   -- the same site on links that are the same
@@ -155,8 +166,11 @@ module _ (w : Workload) where
       ledger = holds.ledger;
       reached = reached;
       fair = left_fair outs;
-      within = λ k inside. subst (AllByRecursion (IsUpTo (last_session (noted s.sequencer.history) (site (k + 1)))))
-          (sym (moved_other (w.sites + 2) links 0 from 0 clock rest outs holds.square some_server (k + 2) 1 (omega (arith, inside)) (λ q. omega (arith, q)) (inl (λ q. omega (arith, q))))) (holds.within k inside);
+      heard = λ k inside. subst (AllByRecursion (IsHeard (last_of s.sequencer.history) k))
+          (sym (moved_other (w.sites + 2) links 0 from 0 clock rest outs holds.square some_server (k + 2) 1 (omega (arith, inside)) (λ q. omega (arith, q)) (inl (λ q. omega (arith, q))))) (holds.heard k inside);
+      spoken = λ k j inside inside_too. subst (AllByRecursion (IsSpoken (last_of s.sequencer.history) k j))
+          (sym (moved_other (w.sites + 2) links 0 from 0 clock rest outs holds.square some_server (k + 2) (j + 2) (omega (arith, inside)) (λ q. omega (arith, q)) (inl (λ q. omega (arith, q))))) (holds.spoken k j inside inside_too);
+      vectors = holds.vectors;
       each = each;
     }
 

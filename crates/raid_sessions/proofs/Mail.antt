@@ -146,3 +146,10 @@ module _ (n : ℕ) (links : List (List (List Letter))) (server from session cloc
   pub moved_other : (c d : ℕ) → c < n → d ≢ server → (c ≢ server) ⊎ (d ≢ from) → link after c d ≡ link links c d
   moved_other c d below differ (inl other) = posts_elsewhere n server session clock outs (set_link links server from rest) c d left below differ ∙ set_server links server from c d rest other
   moved_other c d below differ (inr other) = posts_elsewhere n server session clock outs (set_link links server from rest) c d left below differ ∙ set_sender n links server from c d rest q below other
+
+  -- and its own link to itself
+  pub own_taken : from ≡ server → link after server server ≡ rest ++ letters_to server session clock outs
+  own_taken same = posts_here n server session clock outs (set_link links server from rest) server left within within ∙ ap (λ l. l ++ letters_to server session clock outs) (ap (λ d. link (set_link links server from rest) server d) (sym same) ∙ set_here n links server from rest q within (subst (λ d. d < n) (sym same) within))
+
+  pub own_left : from ≢ server → link after server server ≡ link links server server ++ letters_to server session clock outs
+  own_left differ = posts_here n server session clock outs (set_link links server from rest) server left within within ∙ ap (λ l. l ++ letters_to server session clock outs) (set_sender n links server from server server rest q within (λ e. differ (sym e)))
