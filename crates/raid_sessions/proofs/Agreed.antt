@@ -1,5 +1,5 @@
 -- Where sites and history agree on the sessions.
-use Rattle.std.proofs.Common.{◌≡◌, inl, inr, ℕ, zero, suc, ◌+◌, ◌-◌, ◌<◌, ◌≤◌, ◌==◌, Bool, true, false, List, [], ◌∷◌, ◌++◌, length, Some, if◌then◌else◌, arith, subst, ap, ◌∙◌, refl, append-nil}
+use Rattle.std.proofs.Common.{◌≡◌, ◌≢◌, inl, inr, ℕ, zero, suc, ◌+◌, ◌-◌, ◌<◌, ◌≤◌, ◌==◌, nat_lt, Bool, true, false, List, [], ◌∷◌, ◌++◌, length, Some, if◌then◌else◌, arith, sym, subst, ap, ◌∙◌, refl, append-nil}
 use Rattle.std.specs.Prelude.{slice_get, slice_index, slice_index_or}
 use Rattle.std.specs.List.{AllByRecursion, list_all}
 use Rattle.std.proofs.lemmas.Bool.{and_parts, eqb-true}
@@ -14,10 +14,10 @@ use Rattle.raid_steps.specs.Sequencer.{is_hello}
 use Rattle.raid_steps.specs.World.{World, link, run, is_idle}
 use Rattle.raid_steps.proofs.Parts.{number_known}
 use Rattle.raid_sessions.specs.Present.{told_session, last_told, own_session}
-use Rattle.raid_sessions.proofs.Holds.{IsUpTo, LivesIn}
+use Rattle.raid_sessions.proofs.Holds.{last_of, IsHeard, IsSpoken, LivesIn}
 use Rattle.raid_sessions.proofs.Ledger.{AccountAt}
 use Rattle.raid_sessions.proofs.Lists.{get_below, all_weaken}
-use Rattle.raid_sessions.proofs.Reached.{Reached, reached}
+use Rattle.raid_sessions.proofs.Reached.{no_link, Reached, reached}
 use Rattle.raid_sessions.proofs.Sessions.{Chain, chain_le, said, news, ended}
 
 -- an empty link
@@ -64,9 +64,27 @@ module _ (w : Workload) (state : World) (holds : Reached w state) (k : ℕ) (s :
   heard_one : (n : ℕ) → n ≤ last_told state k → s.up ≡ true → n ≡ s.session → told_session w state k ≡ s.session
   heard_one n most up to = told_up up (let follows = told_follows in omega (arith, most, follows, to))
 
-  pub heard_present : AllByRecursion (λ (l : Letter). s.up ≡ true → l.to ≡ s.session → told_session w state k ≡ s.session) (link state.links (k + 2) 1)
-  heard_present =
-      all_weaken (IsUpTo (last_told state k)) (λ (l : Letter). s.up ≡ true → l.to ≡ s.session → told_session w state k ≡ s.session) (link state.links (k + 2) 1) (λ l most up to. heard_one l.to most up to) (holds.within k below)
+  abbrev IsPresent : Letter → Type 0
+  IsPresent l = s.up ≡ true → l.to ≡ s.session → told_session w state k ≡ s.session
+
+  -- a letter of the sequencer or of a site that the site may hear
+  pub heard_present : (from : ℕ) → from ≢ 0 → AllByRecursion (λ (l : Letter). s.up ≡ true → l.to ≡ s.session → told_session w state k ≡ s.session) (link state.links (k + 2) from)
+  heard_present zero some = absurd (some refl)
+  heard_present (suc zero) some = all_weaken (IsHeard w (last_of state.servers.sequencer.history) k) IsPresent (link state.links (k + 2) 1) (λ l q up to. heard_one l.to q.0 up to) (holds.heard k below)
+  heard_present (suc (suc j)) some = go (nat_lt j w.sites) refl
+    where
+      lt_is : (a b : ℕ) → nat_lt a b ≡ true → a < b
+      lt_is a b q = grind (arith, q)
+
+      lt_or : (a b : ℕ) → nat_lt a b ≡ false → b ≤ a
+      lt_or a b q = grind (arith, q)
+
+      go : (b : Bool) → nat_lt j w.sites ≡ b → AllByRecursion (λ (l : Letter). s.up ≡ true → l.to ≡ s.session → told_session w state k ≡ s.session) (link state.links (k + 2) (suc (suc j)))
+      go true q =
+          subst (λ c. AllByRecursion IsPresent (link state.links (k + 2) c)) (omega arith)
+          (all_weaken (IsSpoken w (last_of state.servers.sequencer.history) k j) IsPresent (link state.links (k + 2) (j + 2)) (λ l q up to. heard_one l.to q.0 up to) (holds.spoken k j below (lt_is j w.sites q)))
+      go false q =
+          subst (AllByRecursion IsPresent) (sym (no_link (w.sites + 2) state.links (k + 2) (suc (suc j)) holds.square (let beyond = lt_or j w.sites q in omega (arith, beyond)))) tt
 
   -- where nothing is on its way
   module _ (idle : is_idle state ≡ true) where
@@ -98,9 +116,9 @@ module _ (w : Workload) (state : World) (holds : Reached w state) (k : ℕ) (s :
 pub run_follows : (w : Workload) (schedule : List Pick) (k : ℕ) (s : SiteState) → slice_get (run w schedule).servers.sites k ≡ Some s → last_told (run w schedule) k ≤ s.session
 run_follows w schedule k s here = told_follows w (run w schedule) (reached w schedule) k s here
 
-pub run_present : (w : Workload) (schedule : List Pick) (k : ℕ) (s : SiteState) → slice_get (run w schedule).servers.sites k ≡ Some s →
-    AllByRecursion (λ (l : Letter). s.up ≡ true → l.to ≡ s.session → told_session w (run w schedule) k ≡ s.session) (link (run w schedule).links (k + 2) 1)
-run_present w schedule k s here = heard_present w (run w schedule) (reached w schedule) k s here
+pub run_present : (w : Workload) (schedule : List Pick) (k from : ℕ) (s : SiteState) → from ≢ 0 → slice_get (run w schedule).servers.sites k ≡ Some s →
+    AllByRecursion (λ (l : Letter). s.up ≡ true → l.to ≡ s.session → told_session w (run w schedule) k ≡ s.session) (link (run w schedule).links (k + 2) from)
+run_present w schedule k from s some here = heard_present w (run w schedule) (reached w schedule) k s here from some
 
 pub run_idle : (w : Workload) (schedule : List Pick) → is_idle (run w schedule) ≡ true → (k : ℕ) (s : SiteState) → slice_get (run w schedule).servers.sites k ≡ Some s → told_session w (run w schedule) k ≡ own_session s
 run_idle w schedule idle k s here = idle_session w (run w schedule) (reached w schedule) k s here idle

@@ -1,22 +1,26 @@
 -- A site's step keeps what holds of reached worlds.
-use Rattle.std.proofs.Common.{◌≡◌, ◌≢◌, ◌⊎◌, inl, inr, ℕ, ◌+◌, ◌<◌, ◌≤◌, Bool, true, false, List, [], ◌∷◌, ◌++◌, Some, arith, sym, subst, ap, ◌∙◌, refl, append-nil}
+use Rattle.std.proofs.Common.{◌≡◌, ◌≢◌, ◌⊎◌, inl, inr, ℕ, ◌+◌, ◌<◌, ◌≤◌, ◌==◌, Bool, true, false, List, [], ◌∷◌, ◌++◌, Some, if◌then◌else◌, arith, sym, subst, ap, ◌∙◌, refl, append-nil}
+use Rattle.std.proofs.lemmas.Bool.{eqb-true, true≢false}
 use Rattle.std.specs.Prelude.{slice_get, slice_set}
 use Rattle.std.specs.List.{AllByRecursion}
+use Rattle.raid_base.specs.declared.names.Site.{Site}
 use Rattle.raid_base.specs.Sites.{site}
 use Rattle.raid_workload.specs.declared.workload.Workload.{Workload}
 use Rattle.raid_rules.specs.History.{noted, ends}
-use Rattle.raid_rules.specs.Sessions.{last_session}
 use Rattle.raid_message.specs.declared.letter.Message.TheVariants as letters
 use Rattle.raid_message.specs.declared.letter.Letter.{Letter}
-use Rattle.raid_steps.specs.State.{Turn, SiteState}
+use Rattle.raid_steps.specs.State.{Out, Turn, SiteState}
 use Rattle.raid_steps.specs.Fits.{knows_site}
+use Rattle.raid_steps.specs.Site.{hear_site}
 use Rattle.raid_steps.specs.World.{Servers, link}
 use Rattle.raid_steps.proofs.Parts.{number_known}
 use Rattle.raid_sessions.proofs.Events.{orders, orders_cons}
 use Rattle.raid_sessions.proofs.Heard.{IsFair}
-use Rattle.raid_sessions.proofs.Holds.{IsUpTo, LivesIn, Holds, lives_is}
-use Rattle.raid_sessions.proofs.Lists.{get_below, get_set, get_other, set_long, some_is}
-use Rattle.raid_sessions.proofs.Mail.{same_or_not, letters_to, moved, moved_square, moved_taken, moved_sent, moved_other}
+use Rattle.raid_sessions.proofs.Holds.{last_of, IsHeard, IsSpoken, LivesIn, Holds, lives_is}
+use Rattle.raid_sessions.proofs.Speech.{Speaks, site_speaks}
+use Rattle.raid_sessions.proofs.Timely.{ArePast, IsWithin, IsSaid}
+use Rattle.raid_sessions.proofs.Lists.{all_append, get_below, get_set, get_other, set_long, some_is}
+use Rattle.raid_sessions.proofs.Mail.{same_or_not, letter_of, letters_to, moved, moved_square, moved_taken, moved_sent, moved_other, own_taken, own_left}
 use Rattle.raid_sessions.proofs.Sessions.{chain_le, Lives, lives_on, lives_less, lives_again}
 use Rattle.raid_sessions.proofs.Site.{SiteStep, stops, returns, stays}
 
@@ -35,6 +39,15 @@ module _ (w : Workload) (s : Servers) (links : List (List (List Letter))) (k fro
     where
       known_site : (k : ℕ) → k + 2 < w.sites + 2 → knows_site w (site (k + 1)) ≡ true
       known_site k below = number_known w k below
+
+  -- what the site knows of the letter
+  pub site_spoke : Speaks w (last_of s.sequencer.history) (site (k + 1)) state.session (hear_site w state from letter)
+  site_spoke = site_speaks w (last_of s.sequencer.history) (site (k + 1)) state letter (holds.vectors k state here) from known
+      (λ q. (subst (AllByRecursion (IsHeard w (last_of s.sequencer.history) k)) (ap (link links (k + 2)) (sym q) ∙ front) (holds.heard k below)).0)
+      (λ j q. (subst (AllByRecursion (IsSpoken w (last_of s.sequencer.history) k j)) (ap (link links (k + 2)) (sym q) ∙ front) (holds.spoken k j below (omega (arith, q, known)))).0)
+    where
+      below : k < w.sites
+      below = omega (arith, inside)
 
   module _ (turn : Turn SiteState) where
     abbrev pub sites_after : List SiteState
@@ -117,24 +130,99 @@ module _ (w : Workload) (s : Servers) (links : List (List (List Letter))) (k fro
         go (inr q) = others_after j other q (sym (get_other s.sites k j turn.state q) ∙ there)
 
     -- what the sequencer told the sites
-    within_after : (j : ℕ) → j < w.sites → AllByRecursion (IsUpTo (last_session (noted s.sequencer.history) (site (j + 1)))) (link links_after (j + 2) 1)
-    within_after j below = go (same_or_not j k) (same_or_not from 1)
+    abbrev L : Site → ℕ
+    L = last_of s.sequencer.history
+
+    heard_after : (j : ℕ) → j < w.sites → AllByRecursion (IsHeard w L j) (link links_after (j + 2) 1)
+    heard_after j below = go (same_or_not j k) (same_or_not from 1)
       where
-        go : (j ≡ k) ⊎ (j ≢ k) → (from ≡ 1) ⊎ (from ≢ 1) → AllByRecursion (IsUpTo (last_session (noted s.sequencer.history) (site (j + 1)))) (link links_after (j + 2) 1)
+        go : (j ≡ k) ⊎ (j ≢ k) → (from ≡ 1) ⊎ (from ≢ 1) → AllByRecursion (IsHeard w L j) (link links_after (j + 2) 1)
         go (inr q) r =
-            subst (AllByRecursion (IsUpTo (last_session (noted s.sequencer.history) (site (j + 1)))))
-            (sym (moved_other (w.sites + 2) links (k + 2) from turn.state.session clock rest turn.outs holds.square inside (j + 2) 1 (omega (arith, below)) (λ e. omega (arith, e)) (inl (λ e. q (omega (arith, e)))))) (holds.within j below)
+            subst (AllByRecursion (IsHeard w L j))
+            (sym (moved_other (w.sites + 2) links (k + 2) from turn.state.session clock rest turn.outs holds.square inside (j + 2) 1 (omega (arith, below)) (λ e. omega (arith, e)) (inl (λ e. q (omega (arith, e)))))) (holds.heard j below)
         go (inl q) (inr r) =
-            subst (AllByRecursion (IsUpTo (last_session (noted s.sequencer.history) (site (j + 1)))))
-            (sym (moved_other (w.sites + 2) links (k + 2) from turn.state.session clock rest turn.outs holds.square inside (j + 2) 1 (omega (arith, below)) (λ e. omega (arith, e)) (inr (λ e. r (sym e))))) (holds.within j below)
+            subst (AllByRecursion (IsHeard w L j))
+            (sym (moved_other (w.sites + 2) links (k + 2) from turn.state.session clock rest turn.outs holds.square inside (j + 2) 1 (omega (arith, below)) (λ e. omega (arith, e)) (inr (λ e. r (sym e))))) (holds.heard j below)
         go (inl q) (inl r) =
             let place : k + 2 ≡ j + 2 = omega (arith, q) in
             let taken = ap (λ c. link links_after c 1) (sym place) ∙ ap (link links_after (k + 2)) (sym r) ∙ moved_taken (w.sites + 2) links (k + 2) from turn.state.session clock rest turn.outs holds.square inside known (λ e. omega (arith, e, r)) in
             let were = ap (λ c. link links c 1) (sym place) ∙ ap (link links (k + 2)) (sym r) ∙ front in
-            subst (AllByRecursion (IsUpTo (last_session (noted s.sequencer.history) (site (j + 1))))) (sym taken) (subst (AllByRecursion (IsUpTo (last_session (noted s.sequencer.history) (site (j + 1))))) were (holds.within j below)).1
+            subst (AllByRecursion (IsHeard w L j)) (sym taken) (subst (AllByRecursion (IsHeard w L j)) were (holds.heard j below)).1
 
-    pub site_holds : SiteStep state from letter turn → Holds w (record s { sites = slice_set s.sites k turn.state }) (moved links (k + 2) from turn.state.session clock rest turn.outs)
-    site_holds step = record {
+    -- what the sites said to one another
+    said_letters : (i : ℕ) (outs : List Out) → i < w.sites → AllByRecursion (λ (out : Out). IsWithin w L out × IsSaid w L (site (k + 1)) turn.state.session out.2) outs → AllByRecursion (IsSpoken w L i k) (letters_to (i + 2) turn.state.session clock outs)
+    said_letters i [] below f = tt
+    said_letters i (out ∷ outs) below f = go (out.0 == i + 2) refl (said_letters i outs below f.1)
+      where
+        go : (b : Bool) → (out.0 == i + 2) ≡ b → AllByRecursion (IsSpoken w L i k) (letters_to (i + 2) turn.state.session clock outs) →
+            AllByRecursion (IsSpoken w L i k) (if b then letter_of turn.state.session clock out ∷ letters_to (i + 2) turn.state.session clock outs else letters_to (i + 2) turn.state.session clock outs)
+        go true q rest = ((f.0.0 i below (eqb-true out.0 (i + 2) q), f.0.1), rest)
+        go false q rest = rest
+
+    said_after : SiteStep state from letter turn → Speaks w L (site (k + 1)) state.session turn → (i : ℕ) → i < w.sites → AllByRecursion (IsSpoken w L i k) (letters_to (i + 2) turn.state.session clock turn.outs)
+    said_after (stays k3) speaks i below = said_letters i turn.outs below (subst (λ n. AllByRecursion (λ (out : Out). IsWithin w L out × IsSaid w L (site (k + 1)) n out.2) turn.outs) (sym k3.1) speaks.1)
+    said_after (stops t) speaks i below = subst (λ outs. AllByRecursion (IsSpoken w L i k) (letters_to (i + 2) turn.state.session clock outs)) (sym t.outs) (no_word (0 == i + 2) (elsewhere 0 i (λ e. omega (arith, e))))
+      where
+        elsewhere : (a i : ℕ) → (a ≡ i + 2 → ⊥) → (a == i + 2) ≡ false
+        elsewhere a i never = grind (arith, never)
+
+        no_word : (b : Bool) → b ≡ false → AllByRecursion (IsSpoken w L i k) (if b then record { clock = clock; from = turn.state.session; to = 0; message = letters.Halted } ∷ [] else [])
+        no_word true q = absurd (true≢false q)
+        no_word false q = tt
+    said_after (returns t) speaks i below = subst (λ outs. AllByRecursion (IsSpoken w L i k) (letters_to (i + 2) turn.state.session clock outs)) (sym t.outs) (no_word (1 == i + 2) (elsewhere 1 i (λ e. omega (arith, e))))
+      where
+        elsewhere : (a i : ℕ) → (a ≡ i + 2 → ⊥) → (a == i + 2) ≡ false
+        elsewhere a i never = grind (arith, never)
+
+        no_word : (b : Bool) → b ≡ false → AllByRecursion (IsSpoken w L i k) (if b then record { clock = clock; from = turn.state.session; to = 0; message = letters.Hello } ∷ [] else [])
+        no_word true q = absurd (true≢false q)
+        no_word false q = tt
+
+    -- the link that was taken from has one less
+    rest_spoken : (i j : ℕ) → i < w.sites → j < w.sites → i ≡ k → from ≡ j + 2 → AllByRecursion (IsSpoken w L i j) rest
+    rest_spoken i j below below_too q r = (subst (AllByRecursion (IsSpoken w L i j)) (ap (λ x. link links (x + 2) (j + 2)) q ∙ ap (link links (k + 2)) (sym r) ∙ front) (holds.spoken i j below below_too)).1
+
+    spoken_after : SiteStep state from letter turn → Speaks w L (site (k + 1)) state.session turn → (i j : ℕ) → i < w.sites → j < w.sites → AllByRecursion (IsSpoken w L i j) (link links_after (i + 2) (j + 2))
+    spoken_after step speaks i j below below_too = go (same_or_not j k) (same_or_not i k) (same_or_not from (j + 2))
+      where
+        both : (base : List Letter) → AllByRecursion (IsSpoken w L i k) base → AllByRecursion (IsSpoken w L i k) (base ++ letters_to (i + 2) turn.state.session clock turn.outs)
+        both base a = all_append (IsSpoken w L i k) base (letters_to (i + 2) turn.state.session clock turn.outs) a (said_after step speaks i below)
+
+        go : (j ≡ k) ⊎ (j ≢ k) → (i ≡ k) ⊎ (i ≢ k) → (from ≡ j + 2) ⊎ (from ≢ j + 2) → AllByRecursion (IsSpoken w L i j) (link links_after (i + 2) (j + 2))
+        go (inr other) (inl q) (inl r) =
+            subst (AllByRecursion (IsSpoken w L i j))
+            (sym (ap (λ x. link links_after (x + 2) (j + 2)) q ∙ ap (link links_after (k + 2)) (sym r) ∙ moved_taken (w.sites + 2) links (k + 2) from turn.state.session clock rest turn.outs holds.square inside known (λ e. other (omega (arith, e, r)))))
+            (rest_spoken i j below below_too q r)
+        go (inr other) (inl q) (inr r) =
+            subst (AllByRecursion (IsSpoken w L i j))
+            (sym (moved_other (w.sites + 2) links (k + 2) from turn.state.session clock rest turn.outs holds.square inside (i + 2) (j + 2) (omega (arith, below)) (λ e. other (omega (arith, e))) (inr (λ e. r (sym e))))) (holds.spoken i j below below_too)
+        go (inr other) (inr q) r =
+            subst (AllByRecursion (IsSpoken w L i j))
+            (sym (moved_other (w.sites + 2) links (k + 2) from turn.state.session clock rest turn.outs holds.square inside (i + 2) (j + 2) (omega (arith, below)) (λ e. other (omega (arith, e))) (inl (λ e. q (omega (arith, e)))))) (holds.spoken i j below below_too)
+        go (inl same) (inr q) r =
+            subst (λ x. AllByRecursion (IsSpoken w L i x) (link links_after (i + 2) (x + 2))) (sym same)
+            (subst (AllByRecursion (IsSpoken w L i k)) (sym (moved_sent (w.sites + 2) links (k + 2) from turn.state.session clock rest turn.outs holds.square inside (i + 2) (omega (arith, below)) (λ e. q (omega (arith, e)))))
+            (both (link links (i + 2) (k + 2)) (subst (λ x. AllByRecursion (IsSpoken w L i x) (link links (i + 2) (x + 2))) same (holds.spoken i j below below_too))))
+        go (inl same) (inl q) (inl r) =
+            subst (λ x. AllByRecursion (IsSpoken w L i x) (link links_after (i + 2) (x + 2))) (sym same)
+            (subst (λ ls. AllByRecursion (IsSpoken w L i k) ls) (sym (ap (λ x. link links_after (x + 2) (k + 2)) q ∙ own_taken (w.sites + 2) links (k + 2) from turn.state.session clock rest turn.outs holds.square inside (omega (arith, r, same)) ∙ ap (λ x. rest ++ letters_to (x + 2) turn.state.session clock turn.outs) (sym q)))
+            (both rest (subst (λ x. AllByRecursion (IsSpoken w L i x) rest) same (rest_spoken i j below below_too q r))))
+        go (inl same) (inl q) (inr r) =
+            subst (λ x. AllByRecursion (IsSpoken w L i x) (link links_after (i + 2) (x + 2))) (sym same)
+            (subst (λ ls. AllByRecursion (IsSpoken w L i k) ls) (sym (ap (λ x. link links_after (x + 2) (k + 2)) q ∙ own_left (w.sites + 2) links (k + 2) from turn.state.session clock rest turn.outs holds.square inside (λ e. r (omega (arith, e, same))) ∙ ap (λ x. link links (x + 2) (k + 2) ++ letters_to (x + 2) turn.state.session clock turn.outs) (sym q)))
+            (both (link links (i + 2) (k + 2)) (subst (λ x. AllByRecursion (IsSpoken w L i x) (link links (i + 2) (x + 2))) same (holds.spoken i j below below_too))))
+
+    vectors_after : Speaks w L (site (k + 1)) state.session turn → (j : ℕ) (other : SiteState) → slice_get sites_after j ≡ Some other → ArePast w L other.vector
+    vectors_after speaks j other there = go (same_or_not j k)
+      where
+        go : (j ≡ k) ⊎ (j ≢ k) → ArePast w L other.vector
+        go (inl q) =
+            let same : turn.state ≡ other = some_is turn.state other (sym (get_set s.sites k turn.state (get_below s.sites k state here)) ∙ ap (slice_get sites_after) (sym q) ∙ there) in
+            subst (λ (x : SiteState). ArePast w L x.vector) same speaks.0
+        go (inr q) = holds.vectors j other (sym (get_other s.sites k j turn.state q) ∙ there)
+
+    pub site_holds : SiteStep state from letter turn → Speaks w L (site (k + 1)) state.session turn → Holds w (record s { sites = slice_set s.sites k turn.state }) (moved links (k + 2) from turn.state.session clock rest turn.outs)
+    site_holds step speaks = record {
       square = moved_square (w.sites + 2) links (k + 2) from turn.state.session clock rest turn.outs holds.square inside;
       long = set_long s.sites k turn.state ∙ holds.long;
       announced = holds.announced;
@@ -144,6 +232,8 @@ module _ (w : Workload) (s : Servers) (links : List (List (List Letter))) (k fro
       reached = holds.reached;
       fair = subst (AllByRecursion (λ (l : Letter). IsFair (ends (noted s.sequencer.history)) l.message))
           (sym (moved_other (w.sites + 2) links (k + 2) from turn.state.session clock rest turn.outs holds.square inside 0 1 (omega arith) (λ q. omega (arith, q)) (inl (λ q. omega (arith, q))))) holds.fair;
-      within = within_after;
+      heard = heard_after;
+      spoken = spoken_after step speaks;
+      vectors = vectors_after speaks;
       each = each_after step;
     }

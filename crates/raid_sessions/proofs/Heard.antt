@@ -33,12 +33,10 @@ use Rattle.raid_message.specs.declared.letter.Message.{Message}
 use Rattle.raid_message.specs.declared.letter.Message.TheVariants as letters
 use Rattle.raid_steps.specs.State.{Out, Turn, Sequencer, Copying, opened, to_site}
 use Rattle.raid_steps.specs.Fits.{knows_site}
-use Rattle.raid_steps.specs.Table.{is_count}
 use Rattle.raid_steps.specs.Sequencer as rows
 use Rattle.raid_steps.specs.Sequencer.{so_far, place, place_if, settle_from, settle, finish}
 use Rattle.raid_placed.proofs.Heard.{Fine, leave_fine, sent_placed, settled_still}
 use Rattle.raid_placed.proofs.Settled.{settle_settles}
-use Rattle.raid_steps.proofs.Parts.{number_known}
 use Rattle.raid_sessions.specs.Due.{IsDue}
 use Rattle.raid_sessions.proofs.Events.{due_of, due_grows}
 use Rattle.raid_sessions.proofs.Ledger.{Ledger, is_still, still_push, down_push, up_push, up_last, up_risen, session_still, session_down, session_up, session_most, last_still, last_down, last_up, ends_grow}

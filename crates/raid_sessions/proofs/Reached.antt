@@ -4,7 +4,7 @@ use Rattle.std.specs.Prelude.{max, slice_get, slice_set, slice_index, slice_inde
 use Rattle.std.specs.List.{AllByRecursion}
 use Rattle.std.specs.Option.{option_map_or}
 use Rattle.raid_base.specs.declared.names.Site.{Site}
-use Rattle.raid_base.specs.Sites.{site}
+use Rattle.raid_base.specs.Sites.{session, site}
 use Rattle.raid_workload.specs.declared.workload.Workload.{Workload}
 use Rattle.raid_workload.specs.Parts.{sites, count_from}
 use Rattle.raid_message.specs.declared.letter.Letter.{Letter}
@@ -16,8 +16,9 @@ use Rattle.raid_steps.proofs.Parts.{number_known}
 use Rattle.raid_placed.proofs.Opening.{opening_placed, opening_quiet}
 use Rattle.raid_sessions.specs.Due.{AreDue}
 use Rattle.raid_sessions.proofs.AtSequencer.{sequencer_holds}
-use Rattle.raid_sessions.proofs.AtSites.{site_holds}
-use Rattle.raid_sessions.proofs.Holds.{IsUpTo, LivesIn, Holds, lives_is, monitor_holds}
+use Rattle.raid_sessions.proofs.AtSites.{site_spoke, site_holds}
+use Rattle.raid_sessions.proofs.Holds.{last_of, IsHeard, IsSpoken, LivesIn, Holds, lives_is, monitor_holds}
+use Rattle.raid_sessions.proofs.Timely.{ArePast, IsNote}
 use Rattle.raid_sessions.proofs.Lists.{get_below, get_set}
 use Rattle.raid_sessions.proofs.Ledger.{opening_session, opening_ledger}
 use Rattle.raid_sessions.proofs.Mail.{AreSquare, moved}
@@ -38,6 +39,12 @@ all_or P (x ∷ xs) (suc k) d a h = all_or P xs k d a.1 h
 narrow : (n : ℕ) (links : List (List (List Letter))) → AllByRecursion (λ (row : List (List Letter)). length row ≡ n) links → AllByRecursion (λ (row : List (List Letter)). length row ≤ n) links
 narrow n [] a = tt
 narrow n (row ∷ links) a = ((let q = a.0 in omega (arith, q)), narrow n links a.1)
+
+-- a link from beyond the last server is empty
+pub no_link : (n : ℕ) (links : List (List (List Letter))) (server from : ℕ) → AreSquare n links → n ≤ from → link links server from ≡ []
+no_link n links server from square beyond =
+    let short = all_or (λ (row : List (List Letter)). length row ≤ n) links server [] (narrow n links square.wide) (omega arith) in
+    past (slice_index_or links server []) from [] (omega (arith, beyond, short))
 
 no_letter : (l : Letter) (rest : List Letter) → [] ≡ l ∷ rest → ⊥
 no_letter l rest q = cc q
@@ -82,7 +89,7 @@ module _ (w : Workload) where
   at_reached s links k from clock l rest below front holds (Some state) here inside =
       let turn = hear_site w state from l in
       let place : suc (suc k) ≡ k + 2 = omega arith in
-      let stepped = site_holds w s links k from clock l rest below (ap (λ c. link links c from) (sym place) ∙ front) holds state here turn (site_step w state from l) in
+      let stepped = site_holds w s links k from clock l rest below (ap (λ c. link links c from) (sym place) ∙ front) holds state here turn (site_step w state from l) (site_spoke w s links k from clock l rest below (ap (λ c. link links c from) (sym place) ∙ front) holds state here) in
       let same = ap (λ (o : Option SiteState). option_map_or (λ (state : SiteState). state.session) o 0) (get_set s.sites k turn.state (get_below s.sites k state here)) in
       subst (λ n. Holds w (record s { sites = slice_set s.sites k turn.state }) (moved links (suc (suc k)) from n clock rest turn.outs)) (sym same)
       (subst (λ c. Holds w (record s { sites = slice_set s.sites k turn.state }) (moved links c from turn.state.session clock rest turn.outs)) (sym place) stepped)
@@ -168,17 +175,41 @@ module _ (w : Workload) where
       (lives_is w 0 [] (replicate w.sites 0) k true 1 (open_commands k) (same_at (w.sites + 2) (k + 2) []) (same_at (w.sites + 2) (k + 2) []) (same_at (w.sites + 2) 0 [])
       (record { opened = refl; some = tt; closed = none; fallen = λ e. omega (arith, e, one); ahead = λ e. omega (arith, one, none); stops = omega arith; returns = omega arith })))
 
-  -- each site's welcome is for its first session
-  first_within : (ss : List Site) (k : ℕ) → AllByRecursion (IsUpTo 1) (slice_index_or (slice_index_or (map (first_links w) ss) k []) 1 [])
-  first_within [] k = tt
-  first_within (s ∷ ss) zero = (omega arith, tt)
-  first_within (s ∷ ss) (suc k) = first_within ss k
+  -- each site's welcome is for its first session, and tells of no later one
+  first_heard : (ss : List Site) (k : ℕ) → AllByRecursion (λ (l : Letter). (l.to ≤ 1) × IsNote w (last_of []) l.message) (slice_index_or (slice_index_or (map (first_links w) ss) k []) 1 [])
+  first_heard [] k = tt
+  first_heard (s ∷ ss) zero = ((omega arith, λ r known. (let one = opening_session w r known in omega (arith, one))), tt)
+  first_heard (s ∷ ss) (suc k) = first_heard ss k
 
-  open_within : (k : ℕ) → AllByRecursion (IsUpTo 1) (link (open_world w).links (k + 2) 1)
-  open_within k = subst (λ c. AllByRecursion (IsUpTo 1) (link (open_world w).links c 1)) (place k) (first_within (sites w) k)
+  open_heard : (k : ℕ) → AllByRecursion (IsHeard w (last_of []) k) (link (open_world w).links (k + 2) 1)
+  open_heard k = subst (λ c. AllByRecursion (IsHeard w (last_of []) k) (link (open_world w).links c 1)) (place k) (first_heard (sites w) k)
     where
       place : (k : ℕ) → suc (suc k) ≡ k + 2
       place k = omega arith
+
+  -- no site has said anything to another, and none has a vector
+  first_silent : (ss : List Site) (k j : ℕ) → slice_index_or (slice_index_or (map (first_links w) ss) k []) (suc (suc j)) [] ≡ []
+  first_silent [] k j = refl
+  first_silent (s ∷ ss) zero j = same_at w.sites j []
+  first_silent (s ∷ ss) (suc k) j = first_silent ss k j
+
+  open_silent : (k j : ℕ) → link (open_world w).links (k + 2) (j + 2) ≡ []
+  open_silent k j = ap (λ c. link (open_world w).links c (j + 2)) (place k) ∙ ap (link (open_world w).links (suc (suc k))) (place j) ∙ first_silent (sites w) k j
+    where
+      place : (k : ℕ) → k + 2 ≡ suc (suc k)
+      place k = omega arith
+
+  first_vector : (ss : List Site) (k : ℕ) (state : SiteState) → slice_get (map (first_site w) ss) k ≡ Some state → state.vector ≡ replicate w.sites 0
+  first_vector [] k state q = absurd (nothing q) where
+    nothing : None ≡ Some state → ⊥
+    nothing q = cc q
+  first_vector (s ∷ ss) zero state q = subst (λ (o : SiteState). o.vector ≡ replicate w.sites 0) (same q) refl where
+    same : Some (first_site w s) ≡ Some state → first_site w s ≡ state
+    same q = cc q
+  first_vector (s ∷ ss) (suc k) state q = first_vector ss k state q
+
+  open_vectors : (k : ℕ) (state : SiteState) → slice_get (map (first_site w) (sites w)) k ≡ Some state → ArePast w (last_of []) state.vector
+  open_vectors k state q r known = (let none = ap (λ v. session v r) (first_vector (sites w) k state q) in let zeros = zero_at w.sites (r.0 - 1) in omega (arith, none, zeros))
 
   open_reached : Reached (open_world w)
   open_reached = record {
@@ -190,7 +221,9 @@ module _ (w : Workload) where
     ledger = opening_ledger w;
     reached = tt;
     fair = subst (AllByRecursion _) (sym (same_at (w.sites + 2) 1 [])) tt;
-    within = λ k below. open_within k;
+    heard = λ k below. open_heard k;
+    spoken = λ k j below below_too. subst (AllByRecursion (IsSpoken w (last_of []) k j)) (sym (open_silent k j)) tt;
+    vectors = open_vectors;
     each = open_lives;
   }
 

@@ -1,5 +1,5 @@
 -- What a site's step says of sessions to others: none after the last that the history has of the site.
-use Rattle.std.proofs.Common.{◌≡◌, ℕ, ℤ, zero, suc, ◌+◌, ◌-◌, ◌<◌, ◌≤◌, ◌==◌, nat_le, Bool, true, false, not, ◌&&◌, List, [], ◌∷◌, ◌++◌, length, map, fold, replicate, Option, Some, None, if◌then◌else◌, arith, sym, subst, ap, refl}
+use Rattle.std.proofs.Common.{◌≡◌, ℕ, ℤ, zero, suc, ◌+◌, ◌-◌, ◌<◌, ◌≤◌, ◌==◌, nat_le, Bool, true, false, ◌&&◌, List, [], ◌∷◌, ◌++◌, length, map, fold, replicate, Option, Some, None, if◌then◌else◌, arith, sym, subst, ap, refl}
 use Rattle.std.specs.Prelude.{slice_index, slice_set}
 use Rattle.std.proofs.lemmas.Bool.{eqb-true}
 use Rattle.std.specs.List.{AllByRecursion}
@@ -24,8 +24,6 @@ use Rattle.raid_message.specs.declared.letter.Message.TheVariants as letters
 use Rattle.raid_message.specs.declared.letter.Letter.{Letter}
 use Rattle.raid_steps.specs.State.{Out, Turn, with_state, opened, send, tell, Copy, Phase, asking, preparing, sent, Running, SiteState}
 use Rattle.raid_steps.specs.Fits.{knows_site, is_of_sequencer, is_of_site}
-use Rattle.raid_steps.specs.Table.{is_farewell}
-use Rattle.raid_steps.specs.Sequencer.{is_hello}
 use Rattle.raid_steps.specs.Copies.{copy_of, staged_of, apply, unstage, stage, set_copy}
 use Rattle.raid_steps.specs.Programs as programs
 use Rattle.raid_steps.specs.Site as rows

@@ -6,7 +6,7 @@
 //! says it.
 #![tactic(auto)]
 
-ghost use Rattle.std.specs.Prelude.{◌≡◌, ◌≤◌, ◌+◌, ℕ, true, List, Some, slice_get};
+ghost use Rattle.std.specs.Prelude.{◌≡◌, ◌≢◌, ◌≤◌, ◌+◌, ℕ, true, List, Some, slice_get};
 ghost use Rattle.std.specs.List.{AllByRecursion};
 ghost use Rattle.raid_workload.specs.declared.workload.Workload.{Workload};
 ghost use Rattle.raid_message.specs.declared.letter.Letter.{Letter};
@@ -31,11 +31,11 @@ pub fn histories_follow_the_sites()
     ensures { (w : Workload) (schedule : List Pick) (k : ℕ) (s : SiteState) → slice_get (run w schedule).servers.sites k ≡ Some s → last_told (run w schedule) k ≤ s.session }
 {}
 
-/// Whatever steps were taken: if a letter on its way from the sequencer to a site that is up is meant for the site's session, then the
-/// history has the site up in that session. So a site hears the sequencer only in a session that the history has it in.
+/// Whatever steps were taken: if a letter on its way to a site that is up, from the sequencer or a site, is meant for the site's session,
+/// then the history has the site up in that session. So a site hears those two only in a session that the history has it in.
 #[tactic(auto, using(crate::proofs::Agreed::run_present))]
 pub fn letters_are_heard_in_the_session_told()
-    ensures { (w : Workload) (schedule : List Pick) (k : ℕ) (s : SiteState) → slice_get (run w schedule).servers.sites k ≡ Some s → AllByRecursion (λ (l : Letter). s.up ≡ true → l.to ≡ s.session → told_session w (run w schedule) k ≡ s.session) (link (run w schedule).links (k + 2) 1) }
+    ensures { (w : Workload) (schedule : List Pick) (k from : ℕ) (s : SiteState) → from ≢ 0 → slice_get (run w schedule).servers.sites k ≡ Some s → AllByRecursion (λ (l : Letter). s.up ≡ true → l.to ≡ s.session → told_session w (run w schedule) k ≡ s.session) (link (run w schedule).links (k + 2) from) }
 {}
 
 /// Where no letter is left on any link, the history has each site in the session that it is in, and down where it is stopped.
