@@ -31,7 +31,7 @@ use Rattle.raid_sessions.proofs.Timely.{still_past, still_note, still_said}
 use Rattle.raid_sessions.proofs.Ledger.{up_last}
 use Rattle.raid_sessions.proofs.Lists.{at_most, above, is_same, apart, within, all_append, all_weaken, set_long, set_index, index_other, get_below, get_known}
 use Rattle.raid_sessions.proofs.Mail.{same_or_not, letter_of, letters_to, moved, moved_square, moved_taken, moved_sent, moved_other}
-use Rattle.raid_sessions.proofs.Sessions.{Chain, chain_le, said, news, news_of, ended, IsSome}
+use Rattle.raid_sessions.proofs.Sessions.{Chain, chain_le, said, news, news_of, ended, IsSome, Sent, sent_hellos}
 
 fair_later : (n m : ℕ) (message : Message) → n ≤ m → IsFair n message → IsFair m message
 fair_later n m (letters.Ends count) le f = omega (arith, le, f)
@@ -83,6 +83,7 @@ module _ (w : Workload) (s : Servers) (links : List (List (List Letter))) (from 
     ahead : (k : ℕ) → k < w.sites → 1 ≤ V (site (k + 1)) → heard_at b k + 1 ≤ V (site (k + 1))
     long : length b ≡ length a
     asked : (k up_to : ℕ) → k < w.sites → from ≡ k + 2 → Chain (last (site (k + 1))) (said is_hello (letter ∷ rest)) up_to → Chain (L (site (k + 1))) (said is_hello rest) up_to
+    sent : (k : ℕ) → k < w.sites → from ≡ k + 2 → Sent (last (site (k + 1))) (letter ∷ rest) → Sent (L (site (k + 1))) rest
     unasked : (k : ℕ) → k < w.sites → from ≢ k + 2 → last (site (k + 1)) ≡ L (site (k + 1))
     heard : (k up_to : ℕ) (xs : List ℕ) → k < w.sites → from ≡ 0 → Chain (heard_at a k) (news (site (k + 1)) (letter ∷ rest) ++ xs) up_to → Chain (heard_at b k) (news (site (k + 1)) rest ++ xs) up_to
     unheard : (k : ℕ) → k < w.sites → from ≢ 0 → heard_at a k ≡ heard_at b k
@@ -101,6 +102,7 @@ module _ (w : Workload) (s : Servers) (links : List (List (List Letter))) (from 
     site_after k state here = record {
       opened = subst (λ n. Chain n (said is_hello (link after 1 (k + 2))) state.session) (sym (tells.told.lasts (site (k + 1)))) (opened_step (same_or_not from (k + 2)));
       some = some_step (same_or_not from (k + 2));
+      sent = subst (λ n. Sent n (link after 1 (k + 2))) (sym (tells.told.lasts (site (k + 1)))) (sent_step (same_or_not from (k + 2)));
       closed = subst (λ c. Chain (heard_at c k) (news (site (k + 1)) (link after 1 0) ++ said is_farewell (link after 0 (k + 2))) (ended state.up state.session)) (sym tells.told.announced)
           (subst (λ ls. Chain (heard_at b k) (news (site (k + 1)) (link after 1 0) ++ said is_farewell ls) (ended state.up state.session)) (sym farewells) (closed_step (same_or_not from 0)));
       fallen = λ q. subst (λ n. n ≤ ended state.up state.session) (sym (tells.told.lasts (site (k + 1)))) (tells.fallen k state here (sym present ∙ q));
@@ -142,6 +144,10 @@ module _ (w : Workload) (s : Servers) (links : List (List (List Letter))) (from 
       opened_step (inr q) =
           subst (λ ls. Chain (L (site (k + 1))) (said is_hello ls) state.session) (sym (asks_left q))
           (subst (λ n. Chain n (said is_hello (link links 1 (k + 2))) state.session) (tells.unasked k below q) mine.opened)
+
+      sent_step : (from ≡ k + 2) ⊎ (from ≢ k + 2) → Sent (L (site (k + 1))) (link after 1 (k + 2))
+      sent_step (inl q) = subst (Sent (L (site (k + 1)))) (sym (asks_taken q)) (tells.sent k below q (subst (Sent (last (site (k + 1)))) (asks_were q) mine.sent))
+      sent_step (inr q) = subst (Sent (L (site (k + 1)))) (sym (asks_left q)) (subst (λ n. Sent n (link links 1 (k + 2))) (tells.unasked k below q) mine.sent)
 
       some_step : (from ≡ k + 2) ⊎ (from ≢ k + 2) → AllByRecursion IsSome (link after 1 (k + 2))
       some_step (inl q) = subst (AllByRecursion IsSome) (sym (asks_taken q)) (subst (AllByRecursion IsSome) (asks_were q) mine.some).1
@@ -218,6 +224,7 @@ module _ (w : Workload) (s : Servers) (links : List (List (List Letter))) (from 
     ahead = still_ahead;
     long = refl;
     asked = λ k up_to below q c. subst (λ b. Chain (last (site (k + 1))) (if b then letter.from ∷ said is_hello rest else said is_hello rest) up_to) (no_hello k below q) c;
+    sent = λ k below q f. (f.1 (no_hello k below q)).1;
     unasked = λ k below q. refl;
     heard = λ k up_to xs below q c. subst (λ ys. Chain (heard_at a k) ((ys ++ news (site (k + 1)) rest) ++ xs) up_to) (no_news k below q) c;
     unheard = λ k below q. refl;
@@ -338,6 +345,7 @@ module _ (w : Workload) (s : Servers) (links : List (List (List Letter))) (from 
             ahead = down_ahead knows heard.0 heard.1;
             long = set_long a (r.0 - 1) (max i (slice_index a (r.0 - 1)));
             asked = λ k up_to below q c. absurd (omega (arith, of, q));
+            sent = λ k below q f. absurd (omega (arith, of, q));
             unasked = λ k below q. refl;
             heard = λ k up_to xs below q c. down_heard k up_to xs below (within w.sites r.0 knows).0 c;
             unheard = λ k below q. absurd (q of);
@@ -383,6 +391,7 @@ module _ (w : Workload) (s : Servers) (links : List (List (List Letter))) (from 
             ahead = λ k below q. hello_ahead heard.0 heard.1 k below (j + 1 == k + 1) refl q;
             long = refl;
             asked = λ k up_to below q c. (let p = next k up_to c in subst (λ n. Chain n (said is_hello rest) up_to) (sym (ap (λ b. if b then letter.from else last (site (k + 1))) (same_site k q) ∙ p.0)) p.1);
+            sent = λ k below q f. sent_hellos (changed last (site (j + 1)) letter.from (site (k + 1))) rest (f.0 (ap is_hello hello));
             unasked = λ k below q. sym (ap (λ b. if b then letter.from else last (site (k + 1))) (other_site k q));
             heard = λ k up_to xs below q c. absurd (omega (arith, of, q));
             unheard = λ k below q. refl;

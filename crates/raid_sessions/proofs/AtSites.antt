@@ -1,8 +1,8 @@
 -- A site's step keeps what holds of reached worlds.
 use Rattle.std.proofs.Common.{◌≡◌, ◌≢◌, ◌⊎◌, inl, inr, ℕ, ◌+◌, ◌<◌, ◌≤◌, ◌==◌, Bool, true, false, List, [], ◌∷◌, ◌++◌, Some, if◌then◌else◌, arith, sym, subst, ap, ◌∙◌, refl, append-nil}
-use Rattle.std.proofs.lemmas.Bool.{eqb-true, true≢false}
+use Rattle.std.proofs.lemmas.Bool.{and_parts, eqb-true, true≢false}
 use Rattle.std.specs.Prelude.{slice_get, slice_set}
-use Rattle.std.specs.List.{AllByRecursion}
+use Rattle.std.specs.List.{AllByRecursion, list_all}
 use Rattle.raid_base.specs.declared.names.Site.{Site}
 use Rattle.raid_base.specs.Sites.{site}
 use Rattle.raid_workload.specs.declared.workload.Workload.{Workload}
@@ -11,18 +11,19 @@ use Rattle.raid_message.specs.declared.letter.Message.TheVariants as letters
 use Rattle.raid_message.specs.declared.letter.Letter.{Letter}
 use Rattle.raid_steps.specs.State.{Out, Turn, SiteState}
 use Rattle.raid_steps.specs.Fits.{knows_site}
+use Rattle.raid_steps.specs.Sequencer.{is_hello}
 use Rattle.raid_steps.specs.Site.{hear_site}
 use Rattle.raid_steps.specs.World.{Servers, link}
 use Rattle.raid_steps.proofs.Parts.{number_known}
 use Rattle.raid_sessions.proofs.Events.{orders, orders_cons}
 use Rattle.raid_sessions.proofs.Heard.{IsFair}
 use Rattle.raid_sessions.proofs.Holds.{last_of, IsHeard, IsSpoken, LivesIn, Holds, lives_is}
-use Rattle.raid_sessions.proofs.Speech.{Speaks, site_speaks}
+use Rattle.raid_sessions.proofs.Speech.{IsSpeech, Speaks, site_speaks}
 use Rattle.raid_sessions.proofs.Timely.{ArePast, IsWithin, IsSaid}
-use Rattle.raid_sessions.proofs.Lists.{all_append, get_below, get_set, get_other, set_long, some_is}
+use Rattle.raid_sessions.proofs.Lists.{all_append, all_weaken, get_below, get_set, get_other, set_long, some_is}
 use Rattle.raid_sessions.proofs.Mail.{same_or_not, letter_of, letters_to, moved, moved_square, moved_taken, moved_sent, moved_other, own_taken, own_left}
-use Rattle.raid_sessions.proofs.Sessions.{chain_le, Lives, lives_on, lives_less, lives_again}
-use Rattle.raid_sessions.proofs.Site.{SiteStep, stops, returns, stays}
+use Rattle.raid_sessions.proofs.Sessions.{chain_le, chain_none, said, IsOf, Sent, sent_append, no_hello, Lives, lives_on, lives_less, lives_again}
+use Rattle.raid_sessions.proofs.Site.{is_plain, SiteStep, Stops, Returns, Stays, stops, returns, stays}
 
 module _ (w : Workload) (s : Servers) (links : List (List (List Letter))) (k from clock : ℕ) (letter : Letter) (rest : List Letter) (known : from < w.sites + 2) (front : link links (k + 2) from ≡ letter ∷ rest) (holds : Holds w s links)
     (state : SiteState) (here : slice_get s.sites k ≡ Some state) where
@@ -81,14 +82,43 @@ module _ (w : Workload) (s : Servers) (links : List (List (List Letter))) (k fro
         go (inl q) = (let a = ap (orders stop) (commands_taken q) in let b = ap (orders stop) (commands_were q) in let c = orders_cons stop letter rest in omega (arith, a, b, c))
         go (inr q) = (let a = ap (orders stop) (commands_left q) in omega (arith, a))
 
+    abbrev L : Site → ℕ
+    L = last_of s.sequencer.history
+
+    -- what the site asks, it asks in its last session
+    asked_letters : (n : ℕ) (outs : List Out) → list_all is_plain outs ≡ true → AllByRecursion (IsSpeech w L (site (k + 1)) n) outs → AllByRecursion (λ (l : Letter). IsOf n l × (n ≤ L (site (k + 1)))) (letters_to 1 n clock outs)
+    asked_letters n [] plain f = tt
+    asked_letters n (out ∷ outs) plain f =
+        let parts = and_parts (is_plain out) (list_all is_plain outs) plain in
+        go (out.0 == 1) refl (no_hello out parts.0) (asked_letters n outs parts.1 f.1)
+      where
+        low : is_hello out.2 ≡ false → (is_hello out.2 ≡ true) ⊎ (n ≤ L (site (k + 1))) → n ≤ L (site (k + 1))
+        low plain (inl q) = absurd (true≢false (sym q ∙ plain))
+        low plain (inr q) = q
+
+        go : (b : Bool) → (out.0 == 1) ≡ b → is_hello out.2 ≡ false → AllByRecursion (λ (l : Letter). IsOf n l × (n ≤ L (site (k + 1)))) (letters_to 1 n clock outs) →
+            AllByRecursion (λ (l : Letter). IsOf n l × (n ≤ L (site (k + 1)))) (if b then letter_of n clock out ∷ letters_to 1 n clock outs else letters_to 1 n clock outs)
+        go true q plain rest = (((plain, refl), low plain (f.0.2 (eqb-true out.0 1 q))), rest)
+        go false q plain rest = rest
+
+    asked_in : (ls : List Letter) → AllByRecursion (λ (l : Letter). IsOf state.session l × (state.session ≤ L (site (k + 1)))) ls → Sent (L (site (k + 1))) (link links 1 (k + 2) ++ ls)
+    asked_in [] a = subst (Sent (L (site (k + 1)))) (sym (append-nil (link links 1 (k + 2)))) (holds.each k state here).sent
+    asked_in (l ∷ ls) a =
+        let mine = holds.each k state here in
+        let most = chain_le (L (site (k + 1))) (said is_hello (link links 1 (k + 2))) state.session mine.opened in
+        let low = a.0.1 in
+        let same : state.session ≡ L (site (k + 1)) = omega (arith, most, low) in
+        sent_append (L (site (k + 1))) (link links 1 (k + 2)) (l ∷ ls) (chain_none (L (site (k + 1))) (said is_hello (link links 1 (k + 2))) state.session mine.opened low)
+        (all_weaken (λ (l : Letter). IsOf state.session l × (state.session ≤ L (site (k + 1)))) (IsOf (L (site (k + 1)))) (l ∷ ls) (λ m q. (q.0.0, q.0.1 ∙ same)) a) mine.sent
+
     -- the site itself
-    mine_after : SiteStep state from letter turn → LivesIn w s.fired s.sequencer.history s.sequencer.announced links_after k turn.state
-    mine_after (stays k3) =
+    mine_after : SiteStep state from letter turn → Speaks w L (site (k + 1)) state.session turn → LivesIn w s.fired s.sequencer.history s.sequencer.announced links_after k turn.state
+    mine_after (stays k3) speaks =
         lives_is w s.fired s.sequencer.history s.sequencer.announced k turn.state.up turn.state.session refl farewells asks bulletins
         (subst (λ u. Lives w k u turn.state.session s.fired s.sequencer.history s.sequencer.announced (link links_after (k + 2) 0) (link links 0 (k + 2) ++ letters_to 0 turn.state.session clock turn.outs) (link links 1 (k + 2) ++ letters_to 1 turn.state.session clock turn.outs) (link links 1 0)) (sym k3.0)
         (subst (λ n. Lives w k state.up n s.fired s.sequencer.history s.sequencer.announced (link links_after (k + 2) 0) (link links 0 (k + 2) ++ letters_to 0 n clock turn.outs) (link links 1 (k + 2) ++ letters_to 1 n clock turn.outs) (link links 1 0)) (sym k3.1)
-        (lives_on w k s.fired s.sequencer.history s.sequencer.announced (link links (k + 2) 0) (link links 0 (k + 2)) (link links 1 (k + 2)) (link links 1 0) state.up state.session clock turn.outs (link links_after (k + 2) 0) (holds.each k state here) some_session k3.2 fewer)))
-    mine_after (stops t) =
+        (lives_on w k s.fired s.sequencer.history s.sequencer.announced (link links (k + 2) 0) (link links 0 (k + 2)) (link links 1 (k + 2)) (link links 1 0) state.up state.session clock turn.outs (link links_after (k + 2) 0) (holds.each k state here) some_session k3.2 fewer (asked_in (letters_to 1 state.session clock turn.outs) (asked_letters state.session turn.outs k3.2 speaks.1)))))
+    mine_after (stops t) speaks =
         let farewell : Letter = record { clock = clock; from = turn.state.session; to = 0; message = letters.Halted } in
         lives_is w s.fired s.sequencer.history s.sequencer.announced k turn.state.up turn.state.session (commands_taken t.of)
         (farewells ∙ ap (λ outs. link links 0 (k + 2) ++ letters_to 0 turn.state.session clock outs) t.outs)
@@ -98,7 +128,7 @@ module _ (w : Workload) (s : Servers) (links : List (List (List Letter))) (k fro
         (lives_less w k s.fired s.sequencer.history s.sequencer.announced (link links (k + 2) 0) (link links 0 (k + 2)) (link links 1 (k + 2)) (link links 1 0) state.session letter farewell rest
         (subst (λ u. Lives w k u state.session s.fired s.sequencer.history s.sequencer.announced (link links (k + 2) 0) (link links 0 (k + 2)) (link links 1 (k + 2)) (link links 1 0)) t.before (holds.each k state here))
         some_session (commands_were t.of) t.said refl t.session)))
-    mine_after (returns t) =
+    mine_after (returns t) speaks =
         let hello : Letter = record { clock = clock; from = turn.state.session; to = 0; message = letters.Hello } in
         lives_is w s.fired s.sequencer.history s.sequencer.announced k turn.state.up turn.state.session (commands_taken t.of)
         (farewells ∙ ap (λ outs. link links 0 (k + 2) ++ letters_to 0 turn.state.session clock outs) t.outs ∙ append-nil (link links 0 (k + 2)))
@@ -120,19 +150,16 @@ module _ (w : Workload) (s : Servers) (links : List (List (List Letter))) (k fro
         (moved_other (w.sites + 2) links (k + 2) from turn.state.session clock rest turn.outs holds.square inside 1 (j + 2) (omega arith) apart (inl (λ q. omega (arith, q))))
         bulletins (holds.each j other there)
 
-    each_after : SiteStep state from letter turn → (j : ℕ) (other : SiteState) → slice_get sites_after j ≡ Some other → LivesIn w s.fired s.sequencer.history s.sequencer.announced links_after j other
-    each_after step j other there = go (same_or_not j k)
+    each_after : SiteStep state from letter turn → Speaks w L (site (k + 1)) state.session turn → (j : ℕ) (other : SiteState) → slice_get sites_after j ≡ Some other → LivesIn w s.fired s.sequencer.history s.sequencer.announced links_after j other
+    each_after step speaks j other there = go (same_or_not j k)
       where
         go : (j ≡ k) ⊎ (j ≢ k) → LivesIn w s.fired s.sequencer.history s.sequencer.announced links_after j other
         go (inl q) =
             let same : turn.state ≡ other = some_is turn.state other (sym (get_set s.sites k turn.state (get_below s.sites k state here)) ∙ ap (slice_get sites_after) (sym q) ∙ there) in
-            subst (λ i. LivesIn w s.fired s.sequencer.history s.sequencer.announced links_after i other) (sym q) (subst (LivesIn w s.fired s.sequencer.history s.sequencer.announced links_after k) same (mine_after step))
+            subst (λ i. LivesIn w s.fired s.sequencer.history s.sequencer.announced links_after i other) (sym q) (subst (LivesIn w s.fired s.sequencer.history s.sequencer.announced links_after k) same (mine_after step speaks))
         go (inr q) = others_after j other q (sym (get_other s.sites k j turn.state q) ∙ there)
 
     -- what the sequencer told the sites
-    abbrev L : Site → ℕ
-    L = last_of s.sequencer.history
-
     heard_after : (j : ℕ) → j < w.sites → AllByRecursion (IsHeard w L j) (link links_after (j + 2) 1)
     heard_after j below = go (same_or_not j k) (same_or_not from 1)
       where
@@ -150,7 +177,7 @@ module _ (w : Workload) (s : Servers) (links : List (List (List Letter))) (k fro
             subst (AllByRecursion (IsHeard w L j)) (sym taken) (subst (AllByRecursion (IsHeard w L j)) were (holds.heard j below)).1
 
     -- what the sites said to one another
-    said_letters : (i : ℕ) (outs : List Out) → i < w.sites → AllByRecursion (λ (out : Out). IsWithin w L out × IsSaid w L (site (k + 1)) turn.state.session out.2) outs → AllByRecursion (IsSpoken w L i k) (letters_to (i + 2) turn.state.session clock outs)
+    said_letters : (i : ℕ) (outs : List Out) → i < w.sites → AllByRecursion (IsSpeech w L (site (k + 1)) turn.state.session) outs → AllByRecursion (IsSpoken w L i k) (letters_to (i + 2) turn.state.session clock outs)
     said_letters i [] below f = tt
     said_letters i (out ∷ outs) below f = go (out.0 == i + 2) refl (said_letters i outs below f.1)
       where
@@ -160,7 +187,7 @@ module _ (w : Workload) (s : Servers) (links : List (List (List Letter))) (k fro
         go false q rest = rest
 
     said_after : SiteStep state from letter turn → Speaks w L (site (k + 1)) state.session turn → (i : ℕ) → i < w.sites → AllByRecursion (IsSpoken w L i k) (letters_to (i + 2) turn.state.session clock turn.outs)
-    said_after (stays k3) speaks i below = said_letters i turn.outs below (subst (λ n. AllByRecursion (λ (out : Out). IsWithin w L out × IsSaid w L (site (k + 1)) n out.2) turn.outs) (sym k3.1) speaks.1)
+    said_after (stays k3) speaks i below = said_letters i turn.outs below (subst (λ n. AllByRecursion (IsSpeech w L (site (k + 1)) n) turn.outs) (sym k3.1) speaks.1)
     said_after (stops t) speaks i below = subst (λ outs. AllByRecursion (IsSpoken w L i k) (letters_to (i + 2) turn.state.session clock outs)) (sym t.outs) (no_word (0 == i + 2) (elsewhere 0 i (λ e. omega (arith, e))))
       where
         elsewhere : (a i : ℕ) → (a ≡ i + 2 → ⊥) → (a == i + 2) ≡ false
@@ -235,5 +262,5 @@ module _ (w : Workload) (s : Servers) (links : List (List (List Letter))) (k fro
       heard = heard_after;
       spoken = spoken_after step speaks;
       vectors = vectors_after speaks;
-      each = each_after step;
+      each = each_after step speaks;
     }

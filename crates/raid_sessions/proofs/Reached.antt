@@ -173,7 +173,7 @@ module _ (w : Workload) where
       subst (λ u. Lives w k u state.session 0 [] (replicate w.sites 0) (link (open_world w).links (k + 2) 0) (link (open_world w).links 0 (k + 2)) (link (open_world w).links 1 (k + 2)) (link (open_world w).links 1 0)) (sym first.0)
       (subst (λ n. Lives w k true n 0 [] (replicate w.sites 0) (link (open_world w).links (k + 2) 0) (link (open_world w).links 0 (k + 2)) (link (open_world w).links 1 (k + 2)) (link (open_world w).links 1 0)) (sym first.1)
       (lives_is w 0 [] (replicate w.sites 0) k true 1 (open_commands k) (same_at (w.sites + 2) (k + 2) []) (same_at (w.sites + 2) (k + 2) []) (same_at (w.sites + 2) 0 [])
-      (record { opened = refl; some = tt; closed = none; fallen = λ e. omega (arith, e, one); ahead = λ e. omega (arith, one, none); stops = omega arith; returns = omega arith })))
+      (record { opened = refl; some = tt; sent = tt; closed = none; fallen = λ e. omega (arith, e, one); ahead = λ e. omega (arith, one, none); stops = omega arith; returns = omega arith })))
 
   -- each site's welcome is for its first session, and tells of no later one
   first_heard : (ss : List Site) (k : ℕ) → AllByRecursion (λ (l : Letter). (l.to ≤ 1) × IsNote w (last_of []) l.message) (slice_index_or (slice_index_or (map (first_links w) ss) k []) 1 [])

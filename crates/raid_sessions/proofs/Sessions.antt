@@ -1,8 +1,8 @@
 -- A site's sessions, as the links tell of them: which were opened and closed, who has heard it so far, and why.
 use Rattle.std.proofs.Common.{◌≡◌, ℕ, ◌+◌, ◌-◌, ◌≤◌, ◌==◌, Bool, true, false, not, cond, List, [], ◌∷◌, ◌++◌, if◌then◌else◌, arith, sym, subst, ap, ◌∙◌, refl, append-nil, append_assoc}
-use Rattle.std.specs.Prelude.{take, slice_index}
+use Rattle.std.specs.Prelude.{⊤, take, slice_index}
 use Rattle.std.specs.List.{AllByRecursion, list_all}
-use Rattle.std.proofs.lemmas.Bool.{and_parts}
+use Rattle.std.proofs.lemmas.Bool.{and_parts, true≢false}
 use Rattle.raid_base.specs.declared.names.Site.{Site}
 use Rattle.raid_base.specs.declared.entry.Entry.{Entry}
 use Rattle.raid_base.specs.Names.{is_site}
@@ -72,7 +72,7 @@ none_said test never c session clock (out ∷ outs) q =
     go true n rest = ap (λ b. if b then session ∷ said test (letters_to c session clock outs) else said test (letters_to c session clock outs)) n ∙ rest
     go false n rest = rest
 
-no_hello : (out : Out) → is_plain out ≡ true → is_hello out.2 ≡ false
+pub no_hello : (out : Out) → is_plain out ≡ true → is_hello out.2 ≡ false
 no_hello out q = not_false (is_hello out.2) (and_parts (not (is_hello out.2)) (not (is_farewell out.2)) q).0
 
 no_farewell : (out : Out) → is_plain out ≡ true → is_farewell out.2 ≡ false
@@ -89,6 +89,47 @@ some_sent c session clock (out ∷ outs) q = go (out.0 == c) (some_sent c sessio
     go true rest = (q, rest)
     go false rest = rest
 
+-- what a site sends the sequencer: letters of its last session there, and then Hellos alone
+abbrev pub AllHello : List Letter → Type 0
+AllHello ls = AllByRecursion (λ (l : Letter). is_hello l.message ≡ true) ls
+
+abbrev pub Sent : ℕ → List Letter → Type 0
+Sent n [] = ⊤
+Sent n (l ∷ ls) = (is_hello l.message ≡ true → AllHello ls) × (is_hello l.message ≡ false → (l.from ≡ n) × Sent n ls)
+
+pub sent_hellos : (n : ℕ) (ls : List Letter) → AllHello ls → Sent n ls
+sent_hellos n [] a = tt
+sent_hellos n (l ∷ ls) a = (λ q. a.1, λ q. absurd (true≢false (sym a.0 ∙ q)))
+
+sent_push : (n : ℕ) (ls : List Letter) (l : Letter) → is_hello l.message ≡ true → Sent n ls → Sent n (ls ++ l ∷ [])
+sent_push n [] l hello f = (λ q. tt, λ q. absurd (true≢false (sym hello ∙ q)))
+sent_push n (m ∷ ls) l hello f =
+    let rest = sent_push n ls l hello in
+    (λ q. all_append (λ (l : Letter). is_hello l.message ≡ true) ls (l ∷ []) (f.0 q) (hello, tt), λ q. ((f.1 q).0, rest (f.1 q).1))
+
+abbrev pub IsOf : ℕ → Letter → Type 0
+IsOf n l = (is_hello l.message ≡ false) × (l.from ≡ n)
+
+sent_plain : (n : ℕ) (ls : List Letter) → AllByRecursion (IsOf n) ls → Sent n ls
+sent_plain n [] a = tt
+sent_plain n (l ∷ ls) a = let rest = sent_plain n ls a.1 in (λ q. absurd (true≢false (sym q ∙ a.0.0)), λ q. (a.0.1, rest))
+
+pub sent_append : (n : ℕ) (ls ms : List Letter) → said is_hello ls ≡ [] → AllByRecursion (IsOf n) ms → Sent n ls → Sent n (ls ++ ms)
+sent_append n [] ms none a f = sent_plain n ms a
+sent_append n (l ∷ ls) ms none a f = go (is_hello l.message) refl (sent_append n ls ms)
+  where
+    some : (x : ℕ) (xs : List ℕ) → x ∷ xs ≡ [] → ⊥
+    some x xs q = cc q
+
+    go : (b : Bool) → is_hello l.message ≡ b → (said is_hello ls ≡ [] → AllByRecursion (IsOf n) ms → Sent n ls → Sent n (ls ++ ms)) → (is_hello l.message ≡ true → AllHello (ls ++ ms)) × (is_hello l.message ≡ false → (l.from ≡ n) × Sent n (ls ++ ms))
+    go true q rest = absurd (some l.from (said is_hello ls) (sym (ap (λ b. if b then l.from ∷ said is_hello ls else said is_hello ls) q) ∙ none))
+    go false q rest =
+        (λ r. absurd (true≢false (sym r ∙ q)), λ r. ((f.1 r).0, rest (sym (ap (λ b. if b then l.from ∷ said is_hello ls else said is_hello ls) q) ∙ none) a (f.1 r).1))
+
+pub chain_none : (a : ℕ) (xs : List ℕ) (e : ℕ) → Chain a xs e → e ≤ a → xs ≡ []
+chain_none a [] e c le = refl
+chain_none a (x ∷ xs) e c le = absurd (let more = chain_le (a + 1) xs e c.1 in omega (arith, more, le))
+
 -- how many sessions of a site have ended
 abbrev pub ended : Bool → ℕ → ℕ
 ended true session = session - 1
@@ -101,6 +142,7 @@ ended false session = session
 pub record Lives (w : Workload) (k : ℕ) (up : Bool) (session fired : ℕ) (h : List Entry) (a : List ℕ) (commands farewells asks bulletins : List Letter) : Type 0 where
   pub opened : Chain (last_session (noted h) (site (k + 1))) (said is_hello asks) session
   pub some : AllByRecursion IsSome asks
+  pub sent : Sent (last_session (noted h) (site (k + 1))) asks
   pub closed : Chain (slice_index a ((site (k + 1)).0 - 1)) (news (site (k + 1)) bulletins ++ said is_farewell farewells) (ended up session)
   pub fallen : session_at (vector w (noted h)) (site (k + 1)) ≡ 0 → last_session (noted h) (site (k + 1)) ≤ ended up session
   pub ahead : 1 ≤ session_at (vector w (noted h)) (site (k + 1)) → slice_index a ((site (k + 1)).0 - 1) + 1 ≤ session_at (vector w (noted h)) (site (k + 1))
@@ -114,10 +156,11 @@ one_order stop m n before after q counted = subst (λ m. before ≡ cond (is_ord
 module _ (w : Workload) (k fired : ℕ) (h : List Entry) (a : List ℕ) (commands farewells asks bulletins : List Letter) where
   -- the site's own step: it goes on
   pub lives_on : (up : Bool) (session clock : ℕ) (outs : List Out) (left : List Letter) → Lives w k up session fired h a commands farewells asks bulletins → 1 ≤ session → list_all is_plain outs ≡ true →
-      ((stop : Bool) → orders stop left ≤ orders stop commands) →
+      ((stop : Bool) → orders stop left ≤ orders stop commands) → Sent (last_session (noted h) (site (k + 1))) (asks ++ letters_to 1 session clock outs) →
       Lives w k up session fired h a left (farewells ++ letters_to 0 session clock outs) (asks ++ letters_to 1 session clock outs) bulletins
-  lives_on up session clock outs left l some plain fewer = record {
+  lives_on up session clock outs left l some plain fewer asked_so = record {
     opened = subst (λ xs. Chain (last_session (noted h) (site (k + 1))) xs session) (sym asked) l.opened;
+    sent = asked_so;
     some = all_append IsSome asks (letters_to 1 session clock outs) l.some (some_sent 1 session clock outs some);
     closed = subst (λ xs. Chain (slice_index a ((site (k + 1)).0 - 1)) (news (site (k + 1)) bulletins ++ xs) (ended up session)) (sym told) l.closed;
     fallen = l.fallen;
@@ -138,6 +181,7 @@ module _ (w : Workload) (k fired : ℕ) (h : List Entry) (a : List ℕ) (command
   lives_less session letter farewell left l some taken stop halted mine = record {
     opened = l.opened;
     some = l.some;
+    sent = l.sent;
     closed = subst (λ e. Chain heard (news (site (k + 1)) bulletins ++ said is_farewell (farewells ++ farewell ∷ [])) e) (next session some)
         (subst (λ xs. Chain heard xs (session - 1 + 1)) (sym told) (chain_push heard (news (site (k + 1)) bulletins ++ said is_farewell farewells) (session - 1) l.closed));
     fallen = λ q. (let f = l.fallen q in omega (arith, f, some));
@@ -166,6 +210,7 @@ module _ (w : Workload) (k fired : ℕ) (h : List Entry) (a : List ℕ) (command
       Lives w k true (session + 1) fired h a left farewells (asks ++ hello ∷ []) bulletins
   lives_again session letter hello left l taken come said_hello mine = record {
     opened = subst (λ xs. Chain (last_session (noted h) (site (k + 1))) xs (session + 1)) (sym asked) (chain_push (last_session (noted h) (site (k + 1))) (said is_hello asks) session l.opened);
+    sent = sent_push (last_session (noted h) (site (k + 1))) asks hello (ap is_hello said_hello) l.sent;
     some = all_append IsSome asks (hello ∷ []) l.some (omega (arith, mine), tt);
     closed = subst (λ e. Chain (slice_index a ((site (k + 1)).0 - 1)) (news (site (k + 1)) bulletins ++ said is_farewell farewells) e) (back session) l.closed;
     fallen = λ q. (let f = l.fallen q in omega (arith, f));
@@ -193,6 +238,7 @@ module _ (w : Workload) (k fired : ℕ) (h : List Entry) (a : List ℕ) (command
   lives_ordered up session more sent told left l same counted = record {
     opened = l.opened;
     some = l.some;
+    sent = l.sent;
     closed = subst (λ xs. Chain (slice_index a ((site (k + 1)).0 - 1)) xs (ended up session)) (sym same) l.closed;
     fallen = l.fallen;
     ahead = l.ahead;

@@ -1,5 +1,5 @@
 -- What a site's step says of sessions to others: none after the last that the history has of the site.
-use Rattle.std.proofs.Common.{◌≡◌, ℕ, ℤ, zero, suc, ◌+◌, ◌-◌, ◌<◌, ◌≤◌, ◌==◌, nat_le, Bool, true, false, ◌&&◌, List, [], ◌∷◌, ◌++◌, length, map, fold, replicate, Option, Some, None, if◌then◌else◌, arith, sym, subst, ap, refl}
+use Rattle.std.proofs.Common.{◌≡◌, ◌⊎◌, inl, inr, refl, ℕ, ℤ, zero, suc, ◌+◌, ◌-◌, ◌<◌, ◌≤◌, ◌==◌, nat_le, Bool, true, false, ◌&&◌, List, [], ◌∷◌, ◌++◌, length, map, fold, replicate, Option, Some, None, if◌then◌else◌, arith, sym, subst, ap}
 use Rattle.std.specs.Prelude.{slice_index, slice_set}
 use Rattle.std.proofs.lemmas.Bool.{eqb-true}
 use Rattle.std.specs.List.{AllByRecursion}
@@ -24,6 +24,7 @@ use Rattle.raid_message.specs.declared.letter.Message.TheVariants as letters
 use Rattle.raid_message.specs.declared.letter.Letter.{Letter}
 use Rattle.raid_steps.specs.State.{Out, Turn, with_state, opened, send, tell, Copy, Phase, asking, preparing, sent, Running, SiteState}
 use Rattle.raid_steps.specs.Fits.{knows_site, is_of_sequencer, is_of_site}
+use Rattle.raid_steps.specs.Sequencer.{is_hello}
 use Rattle.raid_steps.specs.Copies.{copy_of, staged_of, apply, unstage, stage, set_copy}
 use Rattle.raid_steps.specs.Programs as programs
 use Rattle.raid_steps.specs.Site as rows
@@ -187,20 +188,24 @@ module _ (w : Workload) (L : Site → ℕ) where
   hears_if true false state after k l = k
   hears_if false here state after k l = k
 
+  -- what a site may send: for a session that the history has, and what it asks, it asks in such a session; but a Hello opens a new one
+  abbrev pub IsSpeech : Site → ℕ → Out → Type 0
+  IsSpeech self n out = IsWithin w L out × IsSaid w L self n out.2 × (out.0 ≡ 1 → (is_hello out.2 ≡ true) ⊎ (n ≤ L self))
+
   -- what the step of a site is to leave: all that it sends is such, and what it asks to be staged it asks in this session
   abbrev pub Speaks : Site → ℕ → Turn SiteState → Type 0
-  Speaks self n turn = ArePast w L turn.state.vector × AllByRecursion (λ (out : Out). IsWithin w L out × IsSaid w L self n out.2) turn.outs
+  Speaks self n turn = ArePast w L turn.state.vector × AllByRecursion (IsSpeech self n) turn.outs
 
   any_said : (self : Site) (n : ℕ) (m : Message) → n ≤ L self → IsSaid w L self n m
   any_said self n (letters.Prepare t writes) low = λ known. low
   any_said self n other low = tt
 
   speaks : (self : Site) (n : ℕ) (turn : Turn SiteState) → n ≤ L self → Kept turn → Speaks self n turn
-  speaks self n turn low k = (k.0, all_weaken (IsWithin w L) (λ (out : Out). IsWithin w L out × IsSaid w L self n out.2) turn.outs (λ out q. (q, any_said self n out.2 low)) k.1)
+  speaks self n turn low k = (k.0, all_weaken (IsWithin w L) (IsSpeech self n) turn.outs (λ out q. (q, any_said self n out.2 low, λ to. inr low)) k.1)
 
   -- a refusal is meant for the session in which the site was asked
   refuses : (self : Site) (n : ℕ) (state : SiteState) (i : ℕ) (letter : Letter) (message : Message) → ArePast w L state.vector → IsSaid w L (site (i + 1)) letter.from message → Speaks self n (rows.refuse state (i + 2) letter message)
-  refuses self n state i letter (letters.Prepare t writes) past word = (past, ((within_other, tt), tt))
+  refuses self n state i letter (letters.Prepare t writes) past word = (past, ((within_other, tt, λ to. absurd (omega (arith, to))), tt))
     where
       within_other : (k : ℕ) → k < w.sites → i + 2 ≡ k + 2 → letter.from ≤ L (site (k + 1))
       within_other k below to =
@@ -225,7 +230,7 @@ module _ (w : Workload) (L : Site → ℕ) where
             nothing (suc n) (suc k) = nothing n k
 
         stops : (m : Message) → Speaks self state.session (rows.stop w state m)
-        stops letters.Stop = (no_sessions w.sites, ((λ k below to. absurd (omega (arith, to)), tt), tt))
+        stops letters.Stop = (no_sessions w.sites, ((λ k below to. absurd (omega (arith, to)), tt, λ to. absurd (omega (arith, to))), tt))
         stops other = (past, tt)
     speaks_up (suc zero) below note word = go (letter.to == state.session) refl
       where
@@ -252,7 +257,7 @@ module _ (w : Workload) (L : Site → ℕ) where
     speaks_down zero = returns letter.message
       where
         returns : (m : Message) → Speaks self state.session (rows.return state m)
-        returns letters.Return = (past, ((λ k below to. absurd (omega (arith, to)), tt), tt))
+        returns letters.Return = (past, ((λ k below to. absurd (omega (arith, to)), tt, λ to. inl refl), tt))
         returns other = (past, tt)
     speaks_down (suc i) = silent
 
