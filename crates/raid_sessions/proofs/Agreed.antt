@@ -18,7 +18,7 @@ use Rattle.raid_sessions.proofs.Holds.{last_of, IsHeard, IsSpoken, LivesIn}
 use Rattle.raid_sessions.proofs.Ledger.{AccountAt}
 use Rattle.raid_sessions.proofs.Lists.{get_below, all_weaken}
 use Rattle.raid_sessions.proofs.Reached.{no_link, Reached, reached}
-use Rattle.raid_sessions.proofs.Sessions.{Chain, chain_le, said, news, ended}
+use Rattle.raid_sessions.proofs.Sessions.{Chain, chain_le, said, news, ended, Sent}
 
 -- an empty link
 no_length : (ls : List Letter) → (length ls == 0) ≡ true → ls ≡ []
@@ -86,6 +86,15 @@ module _ (w : Workload) (state : World) (holds : Reached w state) (k : ℕ) (s :
       go false q =
           subst (AllByRecursion IsPresent) (sym (no_link (w.sites + 2) state.links (k + 2) (suc (suc j)) holds.square (let beyond = lt_or j w.sites q in omega (arith, beyond)))) tt
 
+  -- the front letter of the site to the sequencer
+  pub front_asked : (l : Letter) (rest : List Letter) → link state.links 1 (k + 2) ≡ l ∷ rest → l.from ≡ (if is_hello l.message then last_told state k + 1 else last_told state k)
+  front_asked l rest front =
+      go (is_hello l.message) refl (subst (λ ls. Chain (last_told state k) (said is_hello ls) s.session) front mine.opened) (subst (Sent (last_told state k)) front mine.sent)
+    where
+      go : (b : Bool) → is_hello l.message ≡ b → Chain (last_told state k) (said is_hello (l ∷ rest)) s.session → Sent (last_told state k) (l ∷ rest) → l.from ≡ (if is_hello l.message then last_told state k + 1 else last_told state k)
+      go true q c f = (subst (λ b. Chain (last_told state k) (if b then l.from ∷ said is_hello rest else said is_hello rest) s.session) q c).0 ∙ ap (λ b. if b then last_told state k + 1 else last_told state k) (sym q)
+      go false q c f = (f.1 q).0 ∙ ap (λ b. if b then last_told state k + 1 else last_told state k) (sym q)
+
   -- where nothing is on its way
   module _ (idle : is_idle state ≡ true) where
     abbrev heard : ℕ
@@ -122,3 +131,7 @@ run_present w schedule k from s some here = heard_present w (run w schedule) (re
 
 pub run_idle : (w : Workload) (schedule : List Pick) → is_idle (run w schedule) ≡ true → (k : ℕ) (s : SiteState) → slice_get (run w schedule).servers.sites k ≡ Some s → told_session w (run w schedule) k ≡ own_session s
 run_idle w schedule idle k s here = idle_session w (run w schedule) (reached w schedule) k s here idle
+
+pub run_asked : (w : Workload) (schedule : List Pick) (k : ℕ) (s : SiteState) (l : Letter) (rest : List Letter) → slice_get (run w schedule).servers.sites k ≡ Some s → link (run w schedule).links 1 (k + 2) ≡ l ∷ rest →
+    l.from ≡ (if is_hello l.message then last_told (run w schedule) k + 1 else last_told (run w schedule) k)
+run_asked w schedule k s l rest here front = front_asked w (run w schedule) (reached w schedule) k s here l rest front

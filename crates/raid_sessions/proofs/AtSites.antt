@@ -19,11 +19,11 @@ use Rattle.raid_sessions.proofs.Events.{orders, orders_cons}
 use Rattle.raid_sessions.proofs.Heard.{IsFair}
 use Rattle.raid_sessions.proofs.Holds.{last_of, IsHeard, IsSpoken, LivesIn, Holds, lives_is}
 use Rattle.raid_sessions.proofs.Speech.{IsSpeech, Speaks, site_speaks}
-use Rattle.raid_sessions.proofs.Timely.{ArePast, IsWithin, IsSaid}
+use Rattle.raid_sessions.proofs.Timely.{ArePast}
 use Rattle.raid_sessions.proofs.Lists.{all_append, all_weaken, get_below, get_set, get_other, set_long, some_is}
 use Rattle.raid_sessions.proofs.Mail.{same_or_not, letter_of, letters_to, moved, moved_square, moved_taken, moved_sent, moved_other, own_taken, own_left}
 use Rattle.raid_sessions.proofs.Sessions.{chain_le, chain_none, said, IsOf, Sent, sent_append, no_hello, Lives, lives_on, lives_less, lives_again}
-use Rattle.raid_sessions.proofs.Site.{is_plain, SiteStep, Stops, Returns, Stays, stops, returns, stays}
+use Rattle.raid_sessions.proofs.Site.{is_plain, SiteStep, stops, returns, stays}
 
 module _ (w : Workload) (s : Servers) (links : List (List (List Letter))) (k from clock : ℕ) (letter : Letter) (rest : List Letter) (known : from < w.sites + 2) (front : link links (k + 2) from ≡ letter ∷ rest) (holds : Holds w s links)
     (state : SiteState) (here : slice_get s.sites k ≡ Some state) where
@@ -113,11 +113,11 @@ module _ (w : Workload) (s : Servers) (links : List (List (List Letter))) (k fro
 
     -- the site itself
     mine_after : SiteStep state from letter turn → Speaks w L (site (k + 1)) state.session turn → LivesIn w s.fired s.sequencer.history s.sequencer.announced links_after k turn.state
-    mine_after (stays k3) speaks =
+    mine_after (stays kept) speaks =
         lives_is w s.fired s.sequencer.history s.sequencer.announced k turn.state.up turn.state.session refl farewells asks bulletins
-        (subst (λ u. Lives w k u turn.state.session s.fired s.sequencer.history s.sequencer.announced (link links_after (k + 2) 0) (link links 0 (k + 2) ++ letters_to 0 turn.state.session clock turn.outs) (link links 1 (k + 2) ++ letters_to 1 turn.state.session clock turn.outs) (link links 1 0)) (sym k3.0)
-        (subst (λ n. Lives w k state.up n s.fired s.sequencer.history s.sequencer.announced (link links_after (k + 2) 0) (link links 0 (k + 2) ++ letters_to 0 n clock turn.outs) (link links 1 (k + 2) ++ letters_to 1 n clock turn.outs) (link links 1 0)) (sym k3.1)
-        (lives_on w k s.fired s.sequencer.history s.sequencer.announced (link links (k + 2) 0) (link links 0 (k + 2)) (link links 1 (k + 2)) (link links 1 0) state.up state.session clock turn.outs (link links_after (k + 2) 0) (holds.each k state here) some_session k3.2 fewer (asked_in (letters_to 1 state.session clock turn.outs) (asked_letters state.session turn.outs k3.2 speaks.1)))))
+        (subst (λ u. Lives w k u turn.state.session s.fired s.sequencer.history s.sequencer.announced (link links_after (k + 2) 0) (link links 0 (k + 2) ++ letters_to 0 turn.state.session clock turn.outs) (link links 1 (k + 2) ++ letters_to 1 turn.state.session clock turn.outs) (link links 1 0)) (sym kept.0)
+        (subst (λ n. Lives w k state.up n s.fired s.sequencer.history s.sequencer.announced (link links_after (k + 2) 0) (link links 0 (k + 2) ++ letters_to 0 n clock turn.outs) (link links 1 (k + 2) ++ letters_to 1 n clock turn.outs) (link links 1 0)) (sym kept.1)
+        (lives_on w k s.fired s.sequencer.history s.sequencer.announced (link links (k + 2) 0) (link links 0 (k + 2)) (link links 1 (k + 2)) (link links 1 0) state.up state.session clock turn.outs (link links_after (k + 2) 0) (holds.each k state here) some_session kept.2 fewer (asked_in (letters_to 1 state.session clock turn.outs) (asked_letters state.session turn.outs kept.2 speaks.1)))))
     mine_after (stops t) speaks =
         let farewell : Letter = record { clock = clock; from = turn.state.session; to = 0; message = letters.Halted } in
         lives_is w s.fired s.sequencer.history s.sequencer.announced k turn.state.up turn.state.session (commands_taken t.of)
@@ -187,7 +187,7 @@ module _ (w : Workload) (s : Servers) (links : List (List (List Letter))) (k fro
         go false q rest = rest
 
     said_after : SiteStep state from letter turn → Speaks w L (site (k + 1)) state.session turn → (i : ℕ) → i < w.sites → AllByRecursion (IsSpoken w L i k) (letters_to (i + 2) turn.state.session clock turn.outs)
-    said_after (stays k3) speaks i below = said_letters i turn.outs below (subst (λ n. AllByRecursion (IsSpeech w L (site (k + 1)) n) turn.outs) (sym k3.1) speaks.1)
+    said_after (stays kept) speaks i below = said_letters i turn.outs below (subst (λ n. AllByRecursion (IsSpeech w L (site (k + 1)) n) turn.outs) (sym kept.1) speaks.1)
     said_after (stops t) speaks i below = subst (λ outs. AllByRecursion (IsSpoken w L i k) (letters_to (i + 2) turn.state.session clock outs)) (sym t.outs) (no_word (0 == i + 2) (elsewhere 0 i (λ e. omega (arith, e))))
       where
         elsewhere : (a i : ℕ) → (a ≡ i + 2 → ⊥) → (a == i + 2) ≡ false

@@ -135,10 +135,14 @@ abbrev pub ended : Bool → ℕ → ℕ
 ended true session = session - 1
 ended false session = session
 
--- A site, the one at a place counted from 0: the letters to it from the monitor (orders), from it to the monitor (farewells) and to the sequencer
--- (asks), and from the monitor to the sequencer (bulletins). Its Hellos on the way open all sessions that the history doesn't have yet, in
--- order, and each letter is of some session; the ends of sessions that weren't announced to the sequencer yet are on their way, in order;
--- it has stopped and returned no more often than the monitor has sent out, those on the way not counted
+-- A site, the one at a place counted from 0: the letters to it from the monitor (commands), from it to the monitor (farewells) and to the
+-- sequencer (asks), and from the monitor to the sequencer (bulletins).
+-- opened: its Hellos on the way open all sessions that the history doesn't have yet, in order.
+-- some, sent: each letter to the sequencer is of some session, and those before the first Hello are of the last that the history has.
+-- closed: the ends of sessions that weren't announced to the sequencer yet are on their way, in order.
+-- fallen: where the history has it down, its last session there has ended.
+-- ahead: where the history has it up, the end of that session wasn't announced yet.
+-- stops, returns: it has stopped and returned no more often than the monitor has sent out, those on the way not counted
 pub record Lives (w : Workload) (k : ℕ) (up : Bool) (session fired : ℕ) (h : List Entry) (a : List ℕ) (commands farewells asks bulletins : List Letter) : Type 0 where
   pub opened : Chain (last_session (noted h) (site (k + 1))) (said is_hello asks) session
   pub some : AllByRecursion IsSome asks

@@ -6,12 +6,13 @@
 //! says it.
 #![tactic(auto)]
 
-ghost use Rattle.std.specs.Prelude.{◌≡◌, ◌≢◌, ◌≤◌, ◌+◌, ℕ, true, List, Some, slice_get};
+ghost use Rattle.std.specs.Prelude.{◌≡◌, ◌≢◌, ◌≤◌, ◌+◌, ℕ, true, List, ◌∷◌, Some, slice_get, if◌then◌else◌};
 ghost use Rattle.std.specs.List.{AllByRecursion};
 ghost use Rattle.raid_workload.specs.declared.workload.Workload.{Workload};
 ghost use Rattle.raid_message.specs.declared.letter.Letter.{Letter};
 ghost use Rattle.raid_message.specs.declared.letter.Pick.{Pick};
 ghost use Rattle.raid_steps.specs.State.{SiteState};
+ghost use Rattle.raid_steps.specs.Sequencer.{is_hello};
 ghost use Rattle.raid_steps.specs.World.{run, link, is_idle};
 ghost use Rattle.raid_sessions.specs.Due.{AreDue};
 ghost use Rattle.raid_sessions.specs.Present.{told_session, last_told, own_session};
@@ -36,6 +37,14 @@ pub fn histories_follow_the_sites()
 #[tactic(auto, using(crate::proofs::Agreed::run_present))]
 pub fn letters_are_heard_in_the_session_told()
     ensures { (w : Workload) (schedule : List Pick) (k from : ℕ) (s : SiteState) → from ≢ 0 → slice_get (run w schedule).servers.sites k ≡ Some s → AllByRecursion (λ (l : Letter). s.up ≡ true → l.to ≡ s.session → told_session w (run w schedule) k ≡ s.session) (link (run w schedule).links (k + 2) from) }
+{}
+
+/// Whatever steps were taken: the letter at the front of a site's link to the sequencer is of the last session of the site that the history
+/// tells of, or it is a Hello and opens the next one. So the sequencer drops a letter for its session only where the history has the site
+/// down.
+#[tactic(auto, using(crate::proofs::Agreed::run_asked))]
+pub fn sites_ask_in_the_last_session_told()
+    ensures { (w : Workload) (schedule : List Pick) (k : ℕ) (s : SiteState) (l : Letter) (rest : List Letter) → slice_get (run w schedule).servers.sites k ≡ Some s → link (run w schedule).links 1 (k + 2) ≡ l ∷ rest → l.from ≡ (if is_hello l.message then last_told (run w schedule) k + 1 else last_told (run w schedule) k) }
 {}
 
 /// Where no letter is left on any link, the history has each site in the session that it is in, and down where it is stopped.
