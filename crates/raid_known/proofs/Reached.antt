@@ -34,12 +34,12 @@ use Rattle.raid_known.proofs.Entries.{all_push}
 use Rattle.raid_known.proofs.Hearing.{hear_told}
 
 -- lists under a change
-all_set : {X : Type 0} (P : X → Type 0) (xs : List X) (k : ℕ) (y : X) → AllByRecursion P xs → P y → AllByRecursion P (slice_set xs k y)
+pub all_set : {X : Type 0} (P : X → Type 0) (xs : List X) (k : ℕ) (y : X) → AllByRecursion P xs → P y → AllByRecursion P (slice_set xs k y)
 all_set P [] k y a h = tt
 all_set P (x ∷ xs) zero y a h = (h, a.1)
 all_set P (x ∷ xs) (suc k) y a h = (a.0, all_set P xs k y a.1 h)
 
-all_at : {X : Type 0} (P : X → Type 0) (xs : List X) (k : ℕ) (d : X) → AllByRecursion P xs → P d → P (slice_index_or xs k d)
+pub all_at : {X : Type 0} (P : X → Type 0) (xs : List X) (k : ℕ) (d : X) → AllByRecursion P xs → P d → P (slice_index_or xs k d)
 all_at P [] k d a h = h
 all_at P (x ∷ xs) zero d a h = a.0
 all_at P (x ∷ xs) (suc k) d a h = all_at P xs k d a.1 h
@@ -53,7 +53,7 @@ empty_long : {X : Type 0} (n : ℕ) (x : X) → length (replicate n x) ≡ n
 empty_long zero x = refl
 empty_long (suc n) x = ap suc (empty_long n x)
 
-all_empty : {X : Type 0} (P : X → Type 0) (n : ℕ) (x : X) → P x → AllByRecursion P (replicate n x)
+pub all_empty : {X : Type 0} (P : X → Type 0) (n : ℕ) (x : X) → P x → AllByRecursion P (replicate n x)
 all_empty P zero x h = tt
 all_empty P (suc n) x h = (h, all_empty P n x h)
 
@@ -64,10 +64,10 @@ past (x ∷ xs) (suc k) d le = past xs k d (omega (arith, le))
 
 module _ (w : Workload) where
   -- no server has links from more than there are
-  abbrev Narrow : List (List Letter) → Type 0
+  abbrev pub Narrow : List (List Letter) → Type 0
   Narrow row = length row ≤ w.sites + 2
 
-  abbrev AreNarrow : List (List (List Letter)) → Type 0
+  abbrev pub AreNarrow : List (List (List Letter)) → Type 0
   AreNarrow links = AllByRecursion Narrow links
 
   none_narrow : Narrow []
@@ -91,7 +91,7 @@ module _ (w : Workload) where
   no_letter : (l : Letter) (rest : List Letter) → [] ≡ l ∷ rest → ⊥
   no_letter l rest q = cc q
 
-  sender : (links : List (List (List Letter))) (server from : ℕ) (l : Letter) (rest : List Letter) → AreNarrow links → link links server from ≡ l ∷ rest → from < w.sites + 2
+  pub sender : (links : List (List (List Letter))) (server from : ℕ) (l : Letter) (rest : List Letter) → AreNarrow links → link links server from ≡ l ∷ rest → from < w.sites + 2
   sender links server from l rest n q = go (nat_lt from (w.sites + 2)) refl
     where
       row : Narrow (slice_index_or links server [])
@@ -106,7 +106,7 @@ module _ (w : Workload) where
 
   -- what holds of reached worlds
   pub record Reached (s : World) : Type 0 where
-    narrow : AreNarrow s.links
+    pub narrow : AreNarrow s.links
     told : Told w s.servers.sequencer.history
     pub placed : Placed w s.servers.sequencer.history
     pub quiet : forced w (noted s.servers.sequencer.history) ≡ None
@@ -129,7 +129,7 @@ module _ (w : Workload) where
   }
   hear_sound s (suc (suc k)) from l below h = at_sound s k from l (slice_get s.sites k) h
 
-  front_reached : (s : World) (server from : ℕ) (queue : List Letter) → link s.links server from ≡ queue → Reached s → Reached (take_front w s server from queue)
+  pub front_reached : (s : World) (server from : ℕ) (queue : List Letter) → link s.links server from ≡ queue → Reached s → Reached (take_front w s server from queue)
   front_reached s server from [] q r = r
   front_reached s server from (l ∷ rest) q r =
       let h = hear_sound s.servers server from l (sender s.links server from l rest r.narrow q) (record { told = r.told; placed = r.placed; quiet = r.quiet }) in
@@ -148,7 +148,7 @@ module _ (w : Workload) where
   rows_narrow [] = tt
   rows_narrow (s ∷ ss) = ((let e : length {A = List Letter} (replicate w.sites []) ≡ w.sites = empty_long w.sites [] in omega (arith, e)), rows_narrow ss)
 
-  open_reached : Reached (open_world w)
+  pub open_reached : Reached (open_world w)
   open_reached =
       let e : length {A = List Letter} (replicate (w.sites + 2) []) ≡ w.sites + 2 = empty_long (w.sites + 2) [] in
       record {

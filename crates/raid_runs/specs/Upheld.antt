@@ -11,11 +11,12 @@ use Rattle.raid_legal.specs.Forced.{forced}
 use Rattle.raid_legal.specs.Switched.{Switched}
 use Rattle.raid_placed.specs.Placed.{Placed}
 use Rattle.raid_report.specs.Known.{IsReportOf}
+use Rattle.raid_made.specs.Made.{EntriesMade}
 
 -- the report is upheld: its history is placed, and what it tells beside that is what the history makes of it
 pub record Upheld (w : Workload) (r : Report) : Type 0 where
   -- each entry is the one that the rules force after those before it, or else one that they let come there: for a read or a commit it is their
-  -- answer to it. So an abort has the cause that they give, but that of a program which ends itself is the word of its home
+  -- answer to it. So an abort has the cause that they give; that of a program which ends itself is the program's, as `made` says
   pub placed : Placed w r.entries
   -- at the end none is forced: no switch, no abort and no answer to a waiting request is left out
   pub unforced : forced w (noted r.entries) ≡ None
@@ -28,5 +29,8 @@ pub record Upheld (w : Workload) (r : Report) : Type 0 where
   pub serial : IsSerialOrder (noted r.entries) r.order
   -- the final value of an item is that of the last Commit that wrote it, else its initial one
   pub values : r.finals ≡ map (λ x. (x, value_of w (noted r.entries) x)) (items w)
+  -- each commit, made, waiting or refused, is just what its program makes of the reads that it tells; and a program that ends itself ends as
+  -- its abort says on the reads that it tells. Whether the values read are those of the last writers is no part of it
+  pub made : EntriesMade w r.entries
   -- the report names only what the workload has, and leaves no item and no copy out; and each abort has an act that its cause has
   pub known : IsReportOf w r
