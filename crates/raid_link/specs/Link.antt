@@ -1,6 +1,6 @@
 -- What a contract sees of the two ends of a link.
 use Rattle.std.specs.Prelude.{◌≡◌, ℕ, ◌<◌, List, length, ◌++◌, take, drop}
-use Rattle.rtrb.specs.Ring.{sent, received, known_items, consumer_capacity, producer_capacity, IsPair, SameProducer, SameConsumer}
+use Rattle.rtrb.specs.Ring.{sent, known_free, received, known_items, consumer_capacity, producer_capacity, IsPair, SameProducer, SameConsumer}
 use Rattle.raid_message.specs.declared.letter.Letter.{Letter}
 use Rattle.raid_link.specs.declared.ends.Sender.{Sender}
 use Rattle.raid_link.specs.declared.ends.Receiver.{Receiver}
@@ -8,6 +8,14 @@ use Rattle.raid_link.specs.declared.ends.Receiver.{Receiver}
 -- every letter that was sent, oldest first: those that went into the ring, and then those that wait
 abbrev pub all_sent : Sender → List Letter
 all_sent s = sent s.producer ++ s.waiting.items
+
+-- the letters that wait for a place in the ring, oldest first
+abbrev pub waits : Sender → List Letter
+waits s = s.waiting.items
+
+-- how many free places of the ring the sender knows of
+abbrev pub free : Sender → ℕ
+free s = known_free s.producer
 
 -- every letter that was taken, oldest first
 abbrev pub given : Receiver → List Letter
@@ -46,4 +54,4 @@ SameReceiver a b = SameConsumer a.consumer b.consumer
 
 -- what is in the ring and what waits is what it was
 abbrev pub Unchanged : Sender → Sender → Type 0
-Unchanged a b = (b.producer ≡ a.producer) × (b.waiting.items ≡ a.waiting.items)
+Unchanged a b = (b.producer ≡ a.producer) × (waits b ≡ waits a)

@@ -1,7 +1,7 @@
 ghost use Rattle.std.specs.Prelude.{◌≡◌, ◌<◌, ◌≤◌, ◌+◌, ◌⊎◌, [], ◌∷◌, ◌++◌, IfOk, OnOk, OnErr, IfSome, IfNone, IsSome, IsTrue, ◌↔◌, length};
 ghost use mathlib.Core.List.{IsPrefix};
 ghost use Rattle.rtrb.specs.Ring.{sent, known_free, SameProducer};
-ghost use Rattle.raid_link.specs.Link.{all_sent, given, known, places_of, left, IsLink, IsSettled, SameSender, SameReceiver, Unchanged};
+ghost use Rattle.raid_link.specs.Link.{all_sent, waits, free, given, known, places_of, left, IsLink, IsSettled, SameSender, SameReceiver, Unchanged};
 
 use raid_base::NoMemory;
 use raid_message::Letter;
@@ -41,6 +41,8 @@ impl Sender {
     pub fn send(&mut self, letter: Letter) -> Result<(), NoMemory>
         ensures same { SameSender self.old self.new }
         ensures ok { OnOk result (all_sent self.new ≡ all_sent self.old ++ letter ∷ []) }
+        ensures enters { OnOk result ((waits self.old ≡ []) × (0 < free self.old) → waits self.new ≡ []) }
+        ensures queues { OnOk result ((0 < length (waits self.old)) ⊎ (free self.old ≡ 0) → waits self.new ≡ waits self.old ++ letter ∷ []) }
         ensures err { OnErr result (all_sent self.new ≡ all_sent self.old) }
         ensures kept { OnErr result (Unchanged self.old self.new) }
     {
