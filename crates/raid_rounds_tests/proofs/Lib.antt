@@ -1,0 +1,4 @@
+pub mod Places
+pub mod Settles
+pub mod Turns
+pub mod Three

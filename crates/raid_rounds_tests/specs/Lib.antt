@@ -1,0 +1,3 @@
+pub mod Ring
+pub mod Next
+pub mod Fits
