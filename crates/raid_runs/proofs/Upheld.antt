@@ -15,6 +15,7 @@ use Rattle.raid_placed.proofs.Named.{placed_never_cycles}
 use Rattle.raid_report.specs.Known.{IsNothing, IsEntryOf}
 use Rattle.raid_known.proofs.Reached.{reached, report_known}
 use Rattle.raid_made.proofs.Runs.{runs_made}
+use Rattle.raid_sessions.proofs.Reached.{run_due}
 use Rattle.raid_runs.specs.Unasked.{IsUnasked, SwitchesUnasked}
 use Rattle.raid_runs.specs.Upheld.{Upheld}
 use Rattle.raid_runs.proofs.Switches.{placed_switched}
@@ -47,5 +48,6 @@ run_upheld w schedule =
       serial = order_lists (noted h) (placed_never_cycles w h r.placed);
       values = refl;
       made = runs_made w schedule;
+      due = run_due w schedule;
       known = known;
     }

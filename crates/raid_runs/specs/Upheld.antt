@@ -12,6 +12,7 @@ use Rattle.raid_legal.specs.Switched.{Switched}
 use Rattle.raid_placed.specs.Placed.{Placed}
 use Rattle.raid_report.specs.Known.{IsReportOf}
 use Rattle.raid_made.specs.Made.{EntriesMade}
+use Rattle.raid_sessions.specs.Due.{AreDue}
 
 -- the report is upheld: its history is placed, and what it tells beside that is what the history makes of it
 pub record Upheld (w : Workload) (r : Report) : Type 0 where
@@ -32,5 +33,7 @@ pub record Upheld (w : Workload) (r : Report) : Type 0 where
   -- each commit, made, waiting or refused, is just what its program makes of the reads that it tells; and a program that ends itself ends as
   -- its abort says on the reads that it tells. Whether the values read are those of the last writers is no part of it
   pub made : EntriesMade w r.entries
+  -- each stop and each return that is told was due, and each copy that was cleared was locked, at an up site, and has the item's version
+  pub due : AreDue w r.entries
   -- the report names only what the workload has, and leaves no item and no copy out; and each abort has an act that its cause has
   pub known : IsReportOf w r

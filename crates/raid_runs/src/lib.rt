@@ -1,8 +1,8 @@
 //! What holds of every run, in whatever order its servers took their letters.
 //!
 //! `specs/Upheld` says it of the run's report. Not all that makes a report sound is there: that the values read are those of the last writers
-//! before, that a program asked for each item that it read, that each stop and return was due, that the copies agree, and that nothing is left
-//! to do at the end, is no part of it. The functions do nothing: each is a law, and its contract says it.
+//! before, that a program asked for each item that it read, that the copies agree, and that nothing is left to do at the end, is no part of
+//! it. The functions do nothing: each is a law, and its contract says it.
 #![tactic(auto)]
 
 ghost use Rattle.std.specs.Prelude.{◌≡◌, List, None};
