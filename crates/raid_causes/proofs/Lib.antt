@@ -1,0 +1,6 @@
+pub mod Lists
+pub mod Links
+pub mod Alone
+pub mod Taking
+pub mod Causal
+pub mod Opening
