@@ -5,6 +5,7 @@
 #![tactic(auto)]
 
 ghost use Rattle.std.specs.Prelude.{◌≡◌, ◌≤◌, ◌+◌, ◌*◌, ◌++◌, List, length, map, All, IfOk, OnOk};
+ghost use Rattle.std.specs.Bool.{OnTrue, OnFalse};
 ghost use Rattle.std.specs.List.Sorted.{IsPermutation, IsNonDecreasingBy};
 ghost use Rattle.raid_message.specs.declared.letter.Pick.{Pick};
 ghost use Rattle.raid_merge.specs.Merged.{IsRising, IsMerge, pick_of};
@@ -22,6 +23,32 @@ pub type Journals = Listed<Journal>;
 
 /// The picks of a run, in order.
 pub type Schedule = Listed<Pick>;
+
+/// Whether each step's clock is larger than those of the steps before it.
+pub fn is_rising(journal: &[Step]) -> bool
+    ensures rises { OnTrue result (IsRising journal.now) }
+    ensures falls { OnFalse result (IsRising journal.now → ⊥) }
+{
+    for k in 1..journal.len() {
+        if journal[k].clock <= journal[k - 1].clock {
+            return false;
+        }
+    }
+    true
+}
+
+/// Whether each journal's clocks rise, as those that are to be merged have to.
+pub fn are_rising(journals: &Journals) -> bool
+    ensures rise { OnTrue result (All IsRising journals.now) }
+    ensures fall { OnFalse result (All IsRising journals.now → ⊥) }
+{
+    for journal in journals.as_slice() {
+        if !is_rising(journal.as_slice()) {
+            return false;
+        }
+    }
+    true
+}
 
 /// Adds the steps of one server.
 fn add(all: &mut Vec<(u16, Step)>, server: u16, journal: &[Step]) -> Result<(), NoMemory>
