@@ -4,3 +4,4 @@ pub mod Alone
 pub mod Taking
 pub mod Causal
 pub mod Opening
+pub mod Running

@@ -44,6 +44,15 @@ still taken less before now end sent later extra after e t a q =
       go (inl f) = tail_of f.0 (less ++ end) (now ++ sent) (ap (λ ls. ls ++ end) (sym f.1) ∙ e ∙ ap (λ ls. ls ++ sent) f.2)
       go (inr f) = ap (λ ls. ls ++ end) (sym f.0) ∙ e ∙ ap (λ ls. ls ++ sent) f.1
 
+-- and the other way
+was : (taken less before now end sent later extra after : List Letter) → less ++ end ≡ after ++ later → Took taken less before now → after ≡ now ++ extra → sent ≡ extra ++ later → taken ++ end ≡ before ++ sent
+was taken less before now end sent later extra after e t a q =
+    let same : less ++ end ≡ now ++ sent = e ∙ ap (λ ls. ls ++ later) a ∙ append_assoc now extra later ∙ ap (λ ls. now ++ ls) (sym q) in
+    go t same where
+      go : Took taken less before now → less ++ end ≡ now ++ sent → taken ++ end ≡ before ++ sent
+      go (inl f) same = ap (λ ls. ls ++ end) f.1 ∙ ap (λ ls. f.0 ∷ ls) same ∙ ap (λ ls. ls ++ sent) (sym f.2)
+      go (inr f) same = ap (λ ls. ls ++ end) f.0 ∙ same ∙ ap (λ ls. ls ++ sent) (sym f.1)
+
 at_long : (w : Workload) (s : Servers) (k from : ℕ) (l : Letter) (o : Option SiteState) → length (hear_at w s k from l o).0.sites ≡ length s.sites
 at_long w s k from l None = refl
 at_long w s k from l (Some state) = length_set s.sites k _
@@ -201,3 +210,20 @@ module _ (w : Workload) (s : World) (i j : ℕ) (l : Letter) (rest : List Letter
           still (of d (histories c)) (of d (now c)) (link s.links c d) (link left c d) (link end.links c d) (of c (after w s d (histories d)).sent) (of c (after w t d (now d)).sent) e.0 (link t.links c d)
           (h.links c d lt) (taken c d) e.1 e.2;
     }
+
+    -- and the same end with that letter in front, where what is left are these histories
+    pub giving : (end : World) (after_it : ℕ → History) → ((k : ℕ) → after_it k ≡ now k) → Histories w t after_it end → Histories w s histories end
+    giving end after_it are h =
+        let here : (k : ℕ) → after w t k (after_it k) ≡ after w t k (now k) = λ k. ap (after w t k) (are k) in
+        record {
+          whole = h.whole;
+          none = λ k le. sym (are k ∙ choose_other i k hs (histories k) (λ q. omega (arith, q, le, below))) ∙ h.none k le;
+          states = λ k lt. alike_trans k end.servers (after w t k (now k)).servers (after w s k (histories k)).servers
+              (subst (λ a. IsAlike k end.servers a.servers) (here k) (h.states k lt)) ((after_same k).servers);
+          clocks = λ k lt. h.clocks k lt ∙ ap (λ a. a.clock) (here k) ∙ (after_same k).clock;
+          journals = λ k lt. h.journals k lt ∙ ap (λ a. a.journal) (here k) ∙ (after_same k).journal;
+          links = λ c d lt.
+              let e = extra c d lt in
+              was (of d (histories c)) (of d (now c)) (link s.links c d) (link left c d) (link end.links c d) (of c (after w s d (histories d)).sent) (of c (after w t d (now d)).sent) e.0 (link t.links c d)
+              (ap (λ hs. of d hs ++ link end.links c d) (sym (are c)) ∙ h.links c d lt ∙ ap (λ a. link t.links c d ++ of c a.sent) (here d)) (taken c d) e.1 e.2;
+        }
