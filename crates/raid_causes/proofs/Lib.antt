@@ -5,3 +5,4 @@ pub mod Taking
 pub mod Causal
 pub mod Opening
 pub mod Running
+pub mod Limited

@@ -27,10 +27,9 @@ alone s server = record { servers = s.servers; clock = slice_index s.clocks serv
 abbrev pub letter_of : ℕ → ℕ → Out → ℕ × Letter
 letter_of session clock out = (out.0, record { clock = clock; from = session; to = out.1; message = out.2 })
 
--- a server by itself after one more letter
-abbrev pub hearing : Workload → ℕ → Alone → ℕ × Letter → Alone
-hearing w server a taken =
-    let clock = 1 + max a.clock taken.1.clock in
+-- a server by itself after a step with this clock, over one more letter
+abbrev pub hearing_at : Workload → ℕ → ℕ → Alone → ℕ × Letter → Alone
+hearing_at w server clock a taken =
     let heard = hear w a.servers server taken.0 taken.1 in
     record {
       servers = heard.0;
@@ -38,6 +37,10 @@ hearing w server a taken =
       journal = a.journal ++ record { clock = clock; from = taken.0 } ∷ [];
       sent = a.sent ++ map (letter_of (session_of heard.0 server) clock) heard.1;
     }
+
+-- a server by itself after one more letter: the step's clock is one more than the larger of its own and the letter's
+abbrev pub hearing : Workload → ℕ → Alone → ℕ × Letter → Alone
+hearing w server a taken = hearing_at w server (1 + max a.clock taken.1.clock) a taken
 
 -- a server by itself, from a world on, after all letters of a history
 abbrev pub after : Workload → World → ℕ → History → Alone

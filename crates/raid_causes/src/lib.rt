@@ -6,12 +6,13 @@
 //! whatever holds of every schedule's run holds of it. The functions do nothing: each is a law, and its contract says it.
 #![tactic(auto)]
 
-ghost use Rattle.std.specs.Prelude.{◌≡◌, ℕ, true, List, All};
+ghost use Rattle.std.specs.Prelude.{◌≡◌, ℕ, ◌<◌, true, List, All, fold};
 ghost use Rattle.raid_workload.specs.declared.workload.Workload.{Workload};
 ghost use Rattle.raid_message.specs.declared.letter.Pick.{Pick};
 ghost use Rattle.raid_merge.specs.Merged.{IsRising, IsMerge};
 ghost use Rattle.raid_steps.specs.World.{World, open_world, run, is_schedule};
-ghost use Rattle.raid_causes.specs.Histories.{History, Histories};
+ghost use Rattle.raid_causes.specs.Histories.{History, Histories, Alone, hearing};
+ghost use Rattle.raid_causes.specs.Limited.{hearing_within};
 ghost use Rattle.raid_causes.specs.Order.{IsOrder};
 
 /// Picks of all steps of the journals, each journal's in their order and with no clock below one before it, are a schedule, and its run ends
@@ -34,4 +35,9 @@ pub fn merges_are_schedules()
 /// and no others.
 pub fn runs_have_histories()
     ensures { (w : Workload) (picks : List Pick) → is_schedule w picks ≡ true → (histories : ℕ → History) × Histories w (open_world w) histories (run w picks) }
+{}
+
+/// Where clocks stay at a greatest value, a server that is below it in the end was always below it: its clocks are those without a limit.
+pub fn clocks_below_the_limit_are_exact()
+    ensures { (w : Workload) (limit server : ℕ) (history : History) (a : Alone) → (fold (hearing_within w limit server) a history).clock < limit → fold (hearing_within w limit server) a history ≡ fold (hearing w server) a history }
 {}
