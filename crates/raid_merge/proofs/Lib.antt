@@ -1,0 +1,4 @@
+pub mod Flat
+pub mod Rising
+pub mod Unique
+pub mod Only
