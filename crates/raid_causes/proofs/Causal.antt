@@ -14,7 +14,7 @@ use Rattle.raid_merge.proofs.Only.{pairs_head, pairs_tail}
 use Rattle.raid_steps.specs.State.{Sequencer, SiteState}
 use Rattle.raid_steps.specs.World.{Servers, World, link, take_letter, pick, finds, is_schedule_from}
 use Rattle.raid_causes.specs.Histories.{History, alone, after, IsAlike, IsWhole, Histories}
-use Rattle.raid_causes.proofs.Lists.{same_or_not, below_or_not, same_lists, same_gets, front}
+use Rattle.raid_causes.proofs.Lists.{same_or_not, below_or_not, same_lists, same_gets, front, not_empty}
 use Rattle.raid_causes.proofs.Alone.{step_of, steps_from, sent_is, late}
 use Rattle.raid_causes.proofs.Taking.{dropped, picked, whole_after, clock_own, clock_other, taking}
 
@@ -35,9 +35,6 @@ first_of c st more (x ∷ rest) e = let a : st ≡ step_of c x = cc e in let b :
 none_of : (c : ℕ) (hs : History) → [] ≡ steps_from c hs → hs ≡ []
 none_of c [] e = refl
 none_of c (x ∷ hs) e = absurd (cc e)
-
-none_first : (x : ℕ × Letter) (hs : History) → [] ≡ x ∷ hs → ⊥
-none_first x hs e = cc e
 
 both_true : (a b : Bool) → a ≡ true → b ≡ true → a && b ≡ true
 both_true a b p q = rw (p, q)
@@ -106,7 +103,7 @@ module _ (w : Workload) (end : World) where
       let y : ℕ × Letter = one.0 in let hs : History = one.1 in
       let below : i < w.sites + 2 = elim (below_or_not i (w.sites + 2)) [
         | inl q ↦ q
-        | inr q ↦ absurd (none_first y hs (sym (h.none i q) ∙ one.2))
+        | inr q ↦ absurd (not_empty y hs (sym (h.none i q) ∙ one.2))
       ] in
       let low : All (λ (u : ℕ × Step). x.1.clock ≤ u.1.clock) (x ∷ more) = All-cons (λ (u : ℕ × Step). x.1.clock ≤ u.1.clock) x more (omega arith) (pairs_head NoLater x more o) in
       let found = find s histories h i y hs x.1.clock below one.2 (x ∷ more) are low (ap (λ st. st.clock) one.3) in

@@ -6,3 +6,5 @@ pub mod Causal
 pub mod Opening
 pub mod Running
 pub mod Limited
+pub mod Sorted
+pub mod Reaching

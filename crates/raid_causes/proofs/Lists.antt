@@ -81,6 +81,10 @@ alike_at zero k x = refl
 alike_at (suc n) zero x = refl
 alike_at (suc n) (suc k) x = alike_at n k x
 
+-- a list with an element isn't the empty one
+pub not_empty : {X : Type 0} (x : X) (xs : List X) → [] ≡ x ∷ xs → ⊥
+not_empty x xs e = cc e
+
 -- the front of a list in two parts
 pub front : {X : Type 0} (q t : List X) (x : X) (xs : List X) → x ∷ xs ≡ q ++ t → ((rest : List X) × (q ≡ x ∷ rest)) ⊎ (t ≡ x ∷ xs)
 front [] t x xs e = inr (sym e)

@@ -8,7 +8,7 @@ use Rattle.raid_message.specs.declared.letter.Pick.{Pick}
 use Rattle.raid_merge.proofs.Flat.{choose_same, choose_other}
 use Rattle.raid_steps.specs.World.{World, link, take_letter, pick, finds, run, open_world, is_schedule, is_schedule_from}
 use Rattle.raid_causes.specs.Histories.{History, HasLinks, IsWhole, Histories}
-use Rattle.raid_causes.proofs.Lists.{below_or_not, past}
+use Rattle.raid_causes.proofs.Lists.{below_or_not, past, not_empty}
 use Rattle.raid_causes.proofs.Alone.{alike_refl}
 use Rattle.raid_causes.proofs.Taking.{dropped, picked, whole_after, giving}
 use Rattle.raid_causes.proofs.Opening.{open_whole}
@@ -23,14 +23,11 @@ dropped_grown histories i x k = elim (cases_eq i k) [
   | inr q ↦ sym (choose_other i k (histories i) (grown histories i x k) q ∙ choose_other i k (x ∷ histories k) (histories k) q)
 ]
 
-none_waits : (l : Letter) (ls : List Letter) → [] ≡ l ∷ ls → ⊥
-none_waits l ls e = cc e
-
 -- a letter that waits has an addressee
 addressee : (n : ℕ) (links : List (List (List Letter))) (server from : ℕ) (l : Letter) (ls : List Letter) → HasLinks n links → link links server from ≡ l ∷ ls → server < n
 addressee n links server from l ls h e = elim (below_or_not server n) [
   | inl q ↦ q
-  | inr q ↦ absurd (none_waits l ls (sym (ap (λ row. slice_index_or row from []) (past links server [] (let c = h.count in omega (arith, q, c)))) ∙ e))
+  | inr q ↦ absurd (not_empty l ls (sym (ap (λ row. slice_index_or row from []) (past links server [] (let c = h.count in omega (arith, q, c)))) ∙ e))
 ]
 
 none_found : (A : Type 0) → not (length {A = Letter} [] == 0) ≡ true → A

@@ -11,7 +11,7 @@ use Rattle.raid_steps.specs.Own.{ChangesOwn}
 use Rattle.raid_steps.specs.World.{Servers, World, hear, hear_at, session_of, link, set_link, take_letter, take_front, pick}
 use Rattle.raid_steps.proofs.Links.{step_changes_own}
 use Rattle.raid_causes.specs.Histories.{History, alone, hearing, after, IsAlike, HasLinks, IsWhole, Histories}
-use Rattle.raid_causes.proofs.Lists.{same_or_not, below_or_not, index_other, length_set, set_at, past}
+use Rattle.raid_causes.proofs.Lists.{same_or_not, below_or_not, index_other, length_set, set_at, past, not_empty}
 use Rattle.raid_causes.proofs.Links.{set_shape, set_here, set_elsewhere, posts_shape, posts_other, posts_own}
 use Rattle.raid_causes.proofs.Alone.{alike_refl, alike_sym, alike_trans, Same, folds_same, sends_all, sends, sends_all_same, sent_is}
 
@@ -19,14 +19,11 @@ use Rattle.raid_causes.proofs.Alone.{alike_refl, alike_sym, alike_trans, Same, f
 abbrev pub dropped : (ℕ → History) → ℕ → History → ℕ → History
 dropped histories server rest k = cond (server == k) rest (histories k)
 
-none_at : (l : Letter) (ls : List Letter) → [] ≡ l ∷ ls → ⊥
-none_at l ls e = cc e
-
 -- a letter that waits has a sender
 pub sender : (n : ℕ) (links : List (List (List Letter))) (server from : ℕ) (l : Letter) (ls : List Letter) → HasLinks n links → server < n → link links server from ≡ l ∷ ls → from < n
 sender n links server from l ls h below e = elim (below_or_not from n) [
   | inl q ↦ q
-  | inr q ↦ absurd (none_at l ls (sym (past (slice_index_or links server []) from [] (let r = h.rows server below in omega (arith, q, r))) ∙ e))
+  | inr q ↦ absurd (not_empty l ls (sym (past (slice_index_or links server []) from [] (let r = h.rows server below in omega (arith, q, r))) ∙ e))
 ]
 
 tail_of : (x : Letter) (xs ys : List Letter) → x ∷ xs ≡ x ∷ ys → xs ≡ ys

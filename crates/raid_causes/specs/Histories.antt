@@ -65,7 +65,8 @@ pub record IsWhole (w : Workload) (s : World) : Type 0 where
   pub links : HasLinks (w.sites + 2) s.links
 
 -- from the one world on, the servers come by themselves, each by its history, to their states, clocks and journals in the other; and on
--- each link the letters that were taken, and then those that are left, are those that it had, and then those that were sent on it
+-- each link the letters that were taken, and then those that are left, are those that it had, and then those that were sent on it. A server
+-- that there isn't takes none
 pub record Histories (w : Workload) (start : World) (histories : ℕ → History) (end : World) : Type 0 where
   pub whole : IsWhole w end
   pub none : (server : ℕ) → w.sites + 2 ≤ server → histories server ≡ []

@@ -31,6 +31,11 @@ pub fn merges_are_schedules()
     ensures { (w : Workload) (histories : ℕ → History) (end : World) (picks : List Pick) → Histories w (open_world w) histories end → IsMerge end.journals picks → (is_schedule w picks ≡ true) × (run w picks ≡ end) }
 {}
 
+/// So each such end is that of a schedule's run.
+pub fn ends_are_reached()
+    ensures { (w : Workload) (histories : ℕ → History) (end : World) → Histories w (open_world w) histories end → (picks : List Pick) × (is_schedule w picks ≡ true) × (run w picks ≡ end) }
+{}
+
 /// The other way, too: a schedule's run is one of servers by themselves. So the ends that are spoken of here are those that schedules lead to,
 /// and no others.
 pub fn runs_have_histories()
