@@ -2,6 +2,7 @@ pub mod Answered
 pub mod Coming
 pub mod Due
 pub mod First
+pub mod Homeless
 pub mod Rules
 pub mod Told
 pub mod Up

@@ -18,7 +18,7 @@ ghost use Rattle.raid_conflict.specs.Live.{Stands};
 ghost use Rattle.raid_placed.specs.Placed.{Placed};
 ghost use Rattle.raid_decide.specs.Stand.{AreKept, AreOf, PartsStand, SwitchesStand};
 
-use crate::homes::{home, is_up};
+use crate::homes::{are_all_up, home, is_up};
 use crate::woken::woken;
 use raid_base::{Act, Cause, Entry, NoMemory, Txn, TxnList, Vector};
 use raid_conflict::Graph;
@@ -56,10 +56,13 @@ fn first_homeless(workload: &Workload, vector: Vector, running: &[Txn]) -> Optio
     None
 }
 
-/// The Abort of the least running transaction whose home is down, if there is one.
+/// The Abort of the least running transaction whose home is down, if there is one. Where all sites are up, none is looked for.
 pub fn home_down(workload: &Workload, history: &History, vector: Vector) -> Option<Entry>
     ensures { Placed workload.now history.now → vector ≡ seen.vector workload.now (rules.noted history.now) → result ≡ words.home_down workload.now (rules.noted history.now) }
 {
+    if are_all_up(workload, vector) {
+        return None;
+    }
     let found = first_homeless(workload, vector, history.running().as_slice());
     abort_of(found, Cause::HomeDown)
 }

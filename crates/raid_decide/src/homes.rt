@@ -1,6 +1,7 @@
-//! The homes of transactions.
+//! The homes of transactions, and whether they are up.
 
 ghost use Rattle.std.specs.Prelude.{◌≡◌, ◌≤◌, true};
+ghost use Rattle.std.specs.List.{list_all};
 ghost use Rattle.raid_base.specs.Names.{has_txn};
 ghost use Rattle.raid_workload.specs.Parts as parts;
 ghost use Rattle.raid_rules.specs.Sessions as rules;
@@ -45,4 +46,17 @@ pub fn is_up(vector: Vector, site: Site) -> bool
     ensures { result ≡ rules.is_site_up vector site }
 {
     vector.session(Site(site.0.max(1))) > 0
+}
+
+/// Whether each of the workload's sites is up in the vector.
+#[tactic(auto, using(crate::proofs::Rules::few_sites))]
+pub fn are_all_up(workload: &Workload, vector: Vector) -> bool
+    ensures { result ≡ list_all (rules.is_site_up vector) (parts.sites workload.now) }
+{
+    for number in 1..workload.sites + 1 {
+        if !is_up(vector, Site(number)) {
+            return false;
+        }
+    }
+    true
 }

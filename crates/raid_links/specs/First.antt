@@ -1,7 +1,11 @@
 -- Which link comes first in the fixed order of picks: by addressee, then by sender.
-use Rattle.std.specs.Prelude.{◌≡◌, ◌≢◌, ℕ, ◌<◌, List, [], slice_index_or}
+use Rattle.std.specs.Prelude.{◌≡◌, ◌≢◌, ℕ, ◌<◌, ◌==◌, Bool, not, List, [], length, slice_index_or}
 use Rattle.raid_message.specs.declared.letter.Letter.{Letter}
 use Rattle.raid_steps.specs.World.{link}
+
+-- a letter is on the link
+abbrev pub has_letter : List Letter → Bool
+has_letter queue = not (length queue == 0)
 
 -- of the links to one server, by sender: this one holds a letter, and none from a lesser sender does
 pub record IsFirstSender (queues : List (List Letter)) (from : ℕ) : Type 0 where

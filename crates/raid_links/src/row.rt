@@ -1,6 +1,6 @@
-ghost use Rattle.std.specs.Prelude.{◌≡◌, ◌==◌, ◌<◌, true, false, is_none, drop, List, [], ◌∷◌, ◌++◌, length, replicate, slice_get, slice_set, slice_index_or, IfOk, IfSome, OnOk, OnErr};
+ghost use Rattle.std.specs.Prelude.{◌≡◌, ◌==◌, ◌<◌, ◌≤◌, ◌+◌, true, false, is_none, if◌then◌else◌, drop, List, [], ◌∷◌, ◌++◌, length, replicate, slice_get, slice_set, slice_index_or, IfOk, IfSome, OnOk, OnErr};
 ghost use Rattle.std.specs.List.{list_all};
-ghost use Rattle.raid_links.specs.First.{IsFirstSender};
+ghost use Rattle.raid_links.specs.First.{IsFirstSender, has_letter};
 ghost use Rattle.raid_message.specs.declared.letter.Letter.{Letter};
 
 use crate::queue::Queue;
@@ -9,19 +9,23 @@ use raid_message::Letter;
 use std::alloc::Global;
 use std::marker::Model;
 
-/// The links to one server, by sender. Contracts see the list of their letters.
+/// The links to one server, by sender. Contracts see the list of their letters. `busy` counts the links that hold a letter.
 #[derive(Drop, Debug)]
 pub struct Row {
     queues: Vec<Queue>,
+    busy: usize,
 }
 
 impl Model for Row {
-    ghost use Rattle.std.specs.Prelude.{List};
+    ghost use Rattle.std.specs.Prelude.{List, ◌≡◌, count_by};
     ghost use Rattle.raid_message.specs.declared.letter.Letter.{Letter};
+    ghost use Rattle.raid_links.specs.First.{has_letter};
 
     ghost Value = { List (List Letter) };
 
     ghost view = { λ r. r.queues.items };
+
+    ghost invariant = { λ r. r.busy ≡ count_by has_letter r.queues.items };
 }
 
 /// So many empty queues.
@@ -35,13 +39,34 @@ fn queues(alloc: Global, servers: usize) -> Result<Vec<Queue>, NoMemory>
     Ok(queues)
 }
 
+/// Whether a letter is on the link.
+fn has_letter(queue: &Queue) -> bool
+    ensures { result ≡ has_letter queue.now }
+{
+    !queue.is_empty()
+}
+
+/// How many links hold a letter, once one that held some, or none, holds some, or none.
+fn recount(busy: usize, before: bool, after: bool) -> usize
+    requires one { before ≡ true → 1 ≤ busy }
+    requires more { before ≡ false → busy < 18446744073709551615 }
+    ensures { result + (if before then 1 else 0) ≡ busy + (if after then 1 else 0) }
+{
+    match (before, after) {
+        (true, false) => busy - 1,
+        (false, true) => busy + 1,
+        _ => busy,
+    }
+}
+
 impl Row {
     /// Empty links from so many servers.
+    #[tactic(auto, using(crate::proofs::Busy::none_of_new))]
     pub fn new(alloc: Global, servers: usize) -> Result<Row, NoMemory>
         ensures { IfOk result (λ r. r ≡ replicate servers []) }
     {
         let queues = queues(alloc, servers)?;
-        Ok(Row { queues })
+        Ok(Row { queues, busy: 0 })
     }
 
     /// From how many servers there are links.
@@ -64,7 +89,10 @@ impl Row {
         ensures ok { OnOk result (self.new ≡ slice_set self.old from (slice_index_or self.old from [] ++ letter ∷ [])) }
         ensures err { OnErr result (self.new ≡ self.old) }
     {
-        self.queues[from].push(letter)
+        let busy = recount(self.busy, has_letter(&self.queues[from]), true);
+        self.queues[from].push(letter)?;
+        self.busy = busy;
+        Ok(())
     }
 
     /// Takes the front letter of the sender's link; None exactly where there is none.
@@ -75,15 +103,23 @@ impl Row {
         if from >= self.queues.len() {
             return None;
         }
-        self.queues[from].pop()
+        let before = has_letter(&self.queues[from]);
+        let letter = self.queues[from].pop();
+        let after = has_letter(&self.queues[from]);
+        self.busy = recount(self.busy, before, after);
+        letter
     }
 
-    /// The least sender with a letter on its link; None exactly where there is none.
+    /// The least sender with a letter on its link; None exactly where there is none. Looks at no link where none holds a letter.
+    #[tactic(auto, using(crate::proofs::Busy::none_busy))]
     pub fn first(&self) -> Option<usize>
         ensures first { IfSome result (λ k. IsFirstSender self.now k) }
         ensures some { IfSome result (λ k. (k < length self.now) × ((length (slice_index_or self.now k []) == 0) ≡ false)) }
         ensures none { is_none result ≡ list_all (λ queue. length queue == 0) self.now }
     {
+        if self.busy == 0 {
+            return None;
+        }
         first_full(&self.queues)
     }
 }

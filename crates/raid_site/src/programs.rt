@@ -298,7 +298,7 @@ fn is_due(parts: &Parts, txn: Txn) -> bool
     requires { parts.now.driver.finished ≡ false }
     ensures { result ≡ whole.is_due parts.now txn }
 {
-    is_over(parts, txn) && parts.ballots.is_open(txn) && parts.ballots.is_ready(txn)
+    parts.ballots.is_open(txn) && parts.ballots.is_ready(txn) && is_over(parts, txn)
 }
 
 /// What the transaction asks to commit, under the vector that the site knows.

@@ -1,4 +1,4 @@
-use Rattle.std.proofs.Common.{ℕ, List, not, ap, ◌∙◌}
+use Rattle.std.proofs.Common.{ℕ, List, not, ap, sym, ◌∙◌}
 use Rattle.std.specs.Prelude.{find, option_map}
 use Rattle.raid_base.specs.declared.names.Txn.{Txn}
 use Rattle.raid_base.specs.declared.entry.Act.TheVariants as acts
@@ -9,7 +9,12 @@ use Rattle.raid_rules.specs.History.{noted}
 use Rattle.raid_rules.specs.Sessions.{is_site_up}
 use Rattle.raid_legal.specs.Seen.{running}
 use Rattle.raid_placed.proofs.Listed.{placed_running_list}
+use Rattle.raid_decide.proofs.Homeless.{nobody_homeless}
 use Rattle.raid_decide.proofs.forced.home_down.Goals as goal
+
+pub returns-then-are_all_up : goal.returns-then-are_all_up
+returns-then-are_all_up c = λ placed e.
+    sym (nobody_homeless c.args.workload.now (noted c.args.history.now) c.args.vector (sym c.are_all_up.ensures ∙ c.if-are_all_up.true) e)
 
 pub returns : goal.returns
 returns c = λ placed e.
