@@ -1,0 +1,12 @@
+pub mod Agreed
+pub mod AtSequencer
+pub mod AtSites
+pub mod Events
+pub mod Heard
+pub mod Holds
+pub mod Ledger
+pub mod Lists
+pub mod Mail
+pub mod Reached
+pub mod Sessions
+pub mod Site
