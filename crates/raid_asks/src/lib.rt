@@ -1,0 +1,18 @@
+//! In each run, which programs run at a site, and what they have on its way to the sequencer.
+//!
+//! `specs/Own` says whose programs run at a site, `specs/Way` what is on its way from it. The functions do nothing: each is a law, and its
+//! contract says it.
+#![tactic(auto)]
+
+ghost use Rattle.std.specs.Prelude.{◌≡◌, ℕ, List, Some, slice_get};
+ghost use Rattle.raid_workload.specs.declared.workload.Workload.{Workload};
+ghost use Rattle.raid_message.specs.declared.letter.Pick.{Pick};
+ghost use Rattle.raid_steps.specs.State.{SiteState};
+ghost use Rattle.raid_steps.specs.World.{run};
+ghost use Rattle.raid_asks.specs.Own.{RunsOwn};
+
+/// Whatever steps were taken: at each site run programs of the site's own transactions alone, attempts counted, and no transaction has two.
+#[tactic(auto, using(crate::proofs::Reached::run_home))]
+pub fn programs_run_at_their_homes()
+    ensures { (w : Workload) (schedule : List Pick) (k : ℕ) (s : SiteState) → slice_get (run w schedule).servers.sites k ≡ Some s → RunsOwn w k s }
+{}
