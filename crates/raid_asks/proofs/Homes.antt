@@ -193,10 +193,10 @@ module _ (w : Workload) where
         go (letters.Ends count) q = tt
         go other q = absurd q
 
-    steps_well : (from : ℕ) (letter : Letter) (a b : Turn Sequencer) → Steps w from letter a b → AllByRecursion GoesWell a.outs → AllByRecursion GoesWell b.outs
-    steps_well from letter a b done q = q
-    steps_well from letter a b (placed ask e p goes why rest) q = steps_well from letter (place w ask a e) b rest (all_append GoesWell a.outs (seq.sends w (noted (a.state.history ++ e ∷ [])) ask e) q (sends_well (noted (a.state.history ++ e ∷ [])) ask e))
-    steps_well from letter a b (passes {next = next} outs same more other rest) q = steps_well from letter next b rest (subst (AllByRecursion GoesWell) (sym more) (all_append GoesWell a.outs outs q (other_well outs other)))
+    steps_well : (from : ℕ) (letter : Letter) (first : List Noted) (a b : Turn Sequencer) → Steps w from letter first a b → AllByRecursion GoesWell a.outs → AllByRecursion GoesWell b.outs
+    steps_well from letter first a b done q = q
+    steps_well from letter first a b (placed ask e p goes why rest) q = steps_well from letter first (place w ask a e) b rest (all_append GoesWell a.outs (seq.sends w (noted (a.state.history ++ e ∷ [])) ask e) q (sends_well (noted (a.state.history ++ e ∷ [])) ask e))
+    steps_well from letter first a b (passes {next = next} outs same more other rest) q = steps_well from letter first next b rest (subst (AllByRecursion GoesWell) (sym more) (all_append GoesWell a.outs outs q (other_well outs other)))
 
     sent_told : (clock : ℕ) (outs : List Out) → AllByRecursion GoesWell outs → AreTold (site (k + 1)) (letters_to (k + 2) 0 clock outs)
     sent_told clock [] q = tt
@@ -222,7 +222,7 @@ module _ (w : Workload) where
         housed k state (link links (k + 2) 1) (homes k state q) (link (moved links 1 from 0 clock rest outs) (k + 2) 1)
         (subst (AreTold (site (k + 1))) (sym (moved_sent (w.sites + 2) links 1 from 0 clock rest outs holds.square (omega arith) (k + 2) (inside k state q) (λ e. omega (arith, e))))
         (all_append (λ (l : Letter). IsTold (site (k + 1)) l.message) (link links (k + 2) 1) (letters_to (k + 2) 0 clock outs) (homes k state q).notes
-        (sent_told k clock outs (steps_well k from letter (opened s.sequencer) (hear_sequencer w s.sequencer from letter) (hear_steps w from letter s.sequencer from refl holds.placed holds.quiet) tt))))
+        (sent_told k clock outs (steps_well k from letter (noted s.sequencer.history) (opened s.sequencer) (hear_sequencer w s.sequencer from letter) (hear_steps w from letter (noted s.sequencer.history) s.sequencer from refl refl holds.placed holds.quiet) tt))))
 
     module _ (k : ℕ) (front : link links (k + 2) from ≡ letter ∷ rest) (state : SiteState) (here : slice_get s.sites k ≡ Some state) where
       pub site_homes : Homes (record s { sites = slice_set s.sites k (rows.hear_site w state from letter).state }) (moved links (k + 2) from (rows.hear_site w state from letter).state.session clock rest (rows.hear_site w state from letter).outs)

@@ -1,6 +1,9 @@
+pub mod Entries
+pub mod Facts
 pub mod Homes
 pub mod Least
 pub mod Line
+pub mod Notes
 pub mod Programs
 pub mod Reached
 pub mod Steps

@@ -96,6 +96,7 @@ module _ (w : Workload) (s : Site) (p : List Noted) where
     pub due : again w p (next_attempt w t) ≡ true
     pub fresh : has_begun p (next_attempt w t) ≡ false
     pub free : has_txn bs (next_attempt w t) ≡ false
+    pub at : is_site s (home w (next_attempt w t)) ≡ true
 
   -- a later attempt is no first one
   pub again_later : (t : Txn) → again w p t ≡ true → (attempt w t == 0) ≡ false
@@ -141,7 +142,7 @@ module _ (w : Workload) (s : Site) (p : List Noted) where
     Notes bs (l ∷ ls) = ((l.to == m) ≡ true → NoteOk bs l.message ls) × Notes bs ls
 
     promise_push : (bs : List Txn) (x t : Txn) → Promise bs t → (x.0 == (next_attempt w t).0) ≡ false → Promise (bs ++ x ∷ []) t
-    promise_push bs x t q apart = record { more = q.more; due = q.due; fresh = q.fresh; free = has_push bs x (next_attempt w t) ∙ ap (λ b. b || (x.0 == (next_attempt w t).0)) q.free ∙ apart }
+    promise_push bs x t q apart = record { more = q.more; due = q.due; fresh = q.fresh; free = has_push bs x (next_attempt w t) ∙ ap (λ b. b || (x.0 == (next_attempt w t).0)) q.free ∙ apart; at = q.at }
 
     note_push : (bs : List Txn) (x : Txn) (message : Message) (ls : List Letter) → NoteOk bs message ls → ((t : Txn) → drops t message ≡ true → Promise bs t → (x.0 == (next_attempt w t).0) ≡ false) → NoteOk (bs ++ x ∷ []) message ls
     note_push bs x (letters.Welcome v n) ls q apart = q

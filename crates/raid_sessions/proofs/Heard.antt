@@ -132,7 +132,7 @@ module _ (w : Workload) where
         (one_if (has_site applied s) apply (each s (letters.Apply t (length p)) refl)) (one_if (is_site s (home w t) && is_up w p s) done (each s (letters.Done t) refl)))
         (commits_each t applied ss)
 
-    sends_each : (ask : ℕ) (e : Entry) → AllByRecursion P (rows.sends w p ask e)
+    pub sends_each : (ask : ℕ) (e : Entry) → AllByRecursion P (rows.sends w p ask e)
     sends_each ask (Read t x s) =
         (each s (letters.ReadDo t ask x (home w t) (session (vector w p) (home w t))) refl, none_if (is_site s (home w t)) (to_site (vector w p) (home w t) (letters.Serving t ask s)) (each (home w t) (letters.Serving t ask s) refl))
     sends_each ask (Commit t request applied) = commits_each t applied (sites w)
