@@ -128,7 +128,7 @@ module _ (w : Workload) where
     site_is s q = ap (λ n. let x : Site = record { 0 = n } in x) (omega (arith, q))
 
     -- the next of a home
-    next_ours : (p : List Noted) (s : Site) → IsNext w s (seq.next_number w p s)
+    pub next_ours : (p : List Noted) (s : Site) → IsNext w s (seq.next_number w p s)
     next_ours p s = go (find test (txns w)) (least test 1 (length w.programs * (w.restarts + 1)))
       where
         test : Txn → Bool

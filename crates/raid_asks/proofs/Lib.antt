@@ -1,3 +1,4 @@
+pub mod Cares
 pub mod Entries
 pub mod Facts
 pub mod Homes
@@ -6,4 +7,6 @@ pub mod Line
 pub mod Notes
 pub mod Programs
 pub mod Reached
+pub mod SiteStep
 pub mod Steps
+pub mod Turns

@@ -240,7 +240,7 @@ module _ (w : Workload) (h : Site) (Fine : List Txn → Txn → Type 0) (Counts 
     asks_commit turn r (preparing reads writes (s ∷ ss)) k f = k
     asks_commit turn r sent k f = k
 
-    asks_commits : (turn : Turn SiteState) → Now turn → Now (programs.ask_commits turn)
+    pub asks_commits : (turn : Turn SiteState) → Now turn → Now (programs.ask_commits turn)
     asks_commits turn k = each_of (λ (r : Running). Fine ts r.txn) (λ now r. programs.ask_commit now r r.phase) turn turn.state.running (λ now r f k. asks_commit now r r.phase k f) k.1.fine k
 
     -- the rows that begin nothing
@@ -287,7 +287,7 @@ module _ (w : Workload) (h : Site) (Fine : List Txn → Txn → Type 0) (Counts 
     starts_from [] turn k = k
     starts_from (i ∷ is) turn k = starts_from is (programs.begin_next w turn) (begins_next turn k)
 
-    starts : (turn : Turn SiteState) → Kept turn → Kept (programs.start w turn)
+    pub starts : (turn : Turn SiteState) → Kept turn → Kept (programs.start w turn)
     starts turn k = starts_from (count_from 0 (w.together - length turn.state.running)) turn k
 
     finished : (turn : Turn SiteState) (t : Txn) (ts : List Txn) → KeptAt ts turn → KeptAt ts (programs.ended turn t)
