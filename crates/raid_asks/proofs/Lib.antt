@@ -1,3 +1,4 @@
+pub mod Begun
 pub mod Cares
 pub mod Entries
 pub mod Facts
