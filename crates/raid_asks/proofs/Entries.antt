@@ -105,7 +105,7 @@ module _ (w : Workload) (k m from : ℕ) (letter : Letter) (first : List Noted) 
         go other goes why = refl
 
     -- attempts that are due still are, unless their home goes down
-    again_on : (u : Txn) → is_down (is_site (home w u)) e ≡ false → again w p u ≡ true → again w q u ≡ true
+    pub again_on : (u : Txn) → is_down (is_site (home w u)) e ≡ false → again w p u ≡ true → again w q u ≡ true
     again_on u up due = subst (λ p. again w p u ≡ true) (sym (noted_push h e)) (and_from (nat_lt 0 (attempt w u)) (list_any (test (add p e)) (add p e)) parts.0
         (list_any-append (test (add p e)) p (next p e ∷ []) ∙ or_left (list_any (test (add p e)) p) (list_any (test (add p e)) (next p e ∷ [])) (any_weaken (test p) (test (add p e)) same p parts.1)))
       where

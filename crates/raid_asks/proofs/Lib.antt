@@ -1,3 +1,4 @@
+pub mod AtSequencer
 pub mod Begun
 pub mod Cares
 pub mod Entries
@@ -11,3 +12,4 @@ pub mod Reached
 pub mod SiteStep
 pub mod Steps
 pub mod Turns
+pub mod Waits

@@ -122,14 +122,14 @@ module _ (w : Workload) (k : ℕ) (p : List Noted) where
 
     -- the whole step
     module _ (notes : List Letter) (c : Cares w k p state asks notes) (within : AllByRecursion (λ (l : Letter). l.to ≤ last_session p (here w k)) notes) (follows : last_session p (here w k) ≤ state.session) where
-      same_cares : (s : SiteState) (left : List Letter) → Cares w k p s asks left → Cares w k p s (asks ++ []) left
+      pub same_cares : (s : SiteState) (left : List Letter) → Cares w k p s asks left → Cares w k p s (asks ++ []) left
       same_cares s left c = subst (λ a. Cares w k p s a left) (sym (append-nil asks)) c
 
-      halts : (message : Message) → Cares w k p (rows.stop w state message).state (asks ++ letters_to 1 (rows.stop w state message).state.session clock (rows.stop w state message).outs) notes
+      pub halts : (message : Message) → Cares w k p (rows.stop w state message).state (asks ++ letters_to 1 (rows.stop w state message).state.session clock (rows.stop w state message).outs) notes
       halts letters.Stop = same_cares (rows.stop w state letters.Stop).state notes (record { sent = c.sent; known = c.known; stage = stopped refl refl refl })
       halts other = same_cares state notes c
 
-      restarts : state.up ≡ false → (message : Message) → Cares w k p (rows.return state message).state (asks ++ letters_to 1 (rows.return state message).state.session clock (rows.return state message).outs) notes
+      pub restarts : state.up ≡ false → (message : Message) → Cares w k p (rows.return state message).state (asks ++ letters_to 1 (rows.return state message).state.session clock (rows.return state message).outs) notes
       restarts down letters.Return = record {
           sent = all_append (λ (l : Letter). l.from ≤ state.session + 1) asks (hello ∷ []) (all_weaken (λ (l : Letter). l.from ≤ state.session) (λ (l : Letter). l.from ≤ state.session + 1) asks (λ l q. omega (arith, q)) c.sent) (omega arith, tt);
           known = all_append (λ (l : Letter). IsOurs w k l.message) asks (hello ∷ []) c.known (tt, tt);
@@ -159,10 +159,10 @@ module _ (w : Workload) (k : ℕ) (p : List Noted) where
       up_as : (i : ℕ) (letter : Letter) → Stays state.up state.session (rows.hear_up w state (suc i) letter)
       up_as i letter = hears_server w state.up state.session state i letter (refl, refl, refl)
 
-      abbrev Goal : Turn SiteState → List Letter → Type 0
+      abbrev pub Goal : Turn SiteState → List Letter → Type 0
       Goal turn left = Cares w k p turn.state (asks ++ letters_to 1 turn.state.session clock turn.outs) left
 
-      peers : state.up ≡ true → (i : ℕ) (letter : Letter) → Goal (rows.hear_up w state (suc (suc i)) letter) notes
+      pub peers : state.up ≡ true → (i : ℕ) (letter : Letter) → Goal (rows.hear_up w state (suc (suc i)) letter) notes
       unfolding after
       peers up i letter = go c.stage
         where
@@ -175,7 +175,7 @@ module _ (w : Workload) (k : ℕ) (p : List Noted) where
           go (fresh u l r n b q) = (let s = still_told w k p state place ascend r n i letter in let m = (up_as (suc i) letter).1 in still_cares c.sent c.known notes (rows.hear_up w state (suc (suc i)) letter) m b s (λ none. fresh ((up_as (suc i) letter).0 ∙ up) (l ∙ sym m) s.0 s.1.0 none (subst (λ x. Welcoming w (here w k) x p notes) (sym m) q)))
           go (awake u l f q) = runs_cares c.sent c.known notes (rows.hear_up w state (suc (suc i)) letter) (up_as (suc i) letter).1 ((up_as (suc i) letter).0 ∙ up) l (runs_told w k p state place ascend state.session refl (begins state.session asks) notes f q i letter)
 
-      notes_taken : state.up ≡ true → (letter : Letter) (rest : List Letter) → notes ≡ letter ∷ rest → Goal (rows.hear_up w state 1 letter) rest
+      pub notes_taken : state.up ≡ true → (letter : Letter) (rest : List Letter) → notes ≡ letter ∷ rest → Goal (rows.hear_up w state 1 letter) rest
       unfolding after
       notes_taken up letter rest front = go c.stage
         where
