@@ -1,19 +1,16 @@
 -- The sequencer's step keeps what holds of each site's programs and Begins.
-use Rattle.std.proofs.Common.{◌≡◌, ◌≢◌, ◌⊎◌, inl, inr, ℕ, zero, suc, ◌+◌, ◌-◌, ◌<◌, ◌≤◌, ◌==◌, nat_lt, nat_le, Bool, true, false, not, ◌&&◌, ◌||◌, List, [], ◌∷◌, ◌++◌, length, Some, None, if◌then◌else◌, arith, sym, subst, ap, ◌∙◌, refl, append-nil}
-use Rattle.std.specs.Prelude.{⊤, slice_get}
+use Rattle.std.proofs.Common.{◌≡◌, ◌⊎◌, inl, inr, ℕ, suc, ◌+◌, ◌<◌, ◌≤◌, ◌==◌, nat_lt, nat_le, Bool, true, false, ◌&&◌, ◌||◌, List, [], ◌∷◌, ◌++◌, Some, None, if◌then◌else◌, arith, sym, subst, ap, ◌∙◌, refl, append-nil}
 use Rattle.std.specs.List.{AllByRecursion}
 use Rattle.std.proofs.lemmas.Bool.{and_from, eqb-true, true≢false}
-use Rattle.std.proofs.lemmas.Grind.{common_steps}
 use Rattle.raid_base.specs.declared.names.Txn.{Txn}
 use Rattle.raid_base.specs.declared.names.Site.{Site}
 use Rattle.raid_base.specs.declared.entry.Entry.{Entry}
 use Rattle.raid_base.specs.declared.entry.Entry.TheVariants.{Begin}
 use Rattle.raid_base.specs.declared.entry.Noted.{Noted}
-use Rattle.raid_base.specs.Names.{is_site}
 use Rattle.raid_base.specs.Sites.{session, site}
 use Rattle.raid_workload.specs.declared.workload.Workload.{Workload}
 use Rattle.raid_workload.specs.Parts.{home}
-use Rattle.raid_rules.specs.History.{noted, next, has_begun}
+use Rattle.raid_rules.specs.History.{noted, has_begun}
 use Rattle.raid_rules.specs.Sessions.{last_session}
 use Rattle.raid_legal.specs.Legal.{may_begin}
 use Rattle.raid_legal.specs.Seen.{vector, is_up, again}
@@ -21,8 +18,8 @@ use Rattle.raid_legal.specs.Forced.{forced}
 use Rattle.raid_message.specs.declared.letter.Message.{Message}
 use Rattle.raid_message.specs.declared.letter.Message.TheVariants as letters
 use Rattle.raid_message.specs.declared.letter.Letter.{Letter}
-use Rattle.raid_steps.specs.State.{Out, Turn, Sequencer, SiteState, opened}
-use Rattle.raid_steps.specs.Fits.{knows_site, is_to_sequencer}
+use Rattle.raid_steps.specs.State.{Turn, Sequencer, SiteState, opened}
+use Rattle.raid_steps.specs.Fits.{is_to_sequencer}
 use Rattle.raid_steps.specs.Sequencer as rows
 use Rattle.raid_steps.specs.Sequencer.{so_far, place, is_hello, finish, hear_sequencer}
 use Rattle.raid_placed.specs.Placed.{Placed, Placeable}
@@ -30,13 +27,13 @@ use Rattle.raid_placed.proofs.Heard.{sent_placed}
 use Rattle.raid_placed.proofs.Sent.{unforced_placeable}
 use Rattle.raid_sessions.proofs.Ledger.{last_still, session_still}
 use Rattle.raid_sessions.proofs.Lists.{all_weaken}
-use Rattle.raid_sessions.proofs.Mail.{same_or_not, letters_to}
-use Rattle.raid_asks.proofs.Begun.{site_same, begins_now, counts_taken, fine_taken}
-use Rattle.raid_asks.proofs.Cares.{begins, IsOurs, AreOurs, Stage, stopped, asleep, fresh, awake, Cares}
+use Rattle.raid_sessions.proofs.Mail.{letters_to}
+use Rattle.raid_asks.proofs.Begun.{begins_now, counts_taken, fine_taken}
+use Rattle.raid_asks.proofs.Cares.{begins, Stage, stopped, asleep, fresh, awake}
 use Rattle.raid_asks.proofs.Entries.{IsQuiet, begun_is, again_on}
 use Rattle.raid_asks.proofs.Facts.{or_right}
-use Rattle.raid_asks.proofs.Least.{Ours, known_txn}
-use Rattle.raid_asks.proofs.Line.{Line, FineAt, CountsAt}
+use Rattle.raid_asks.proofs.Least.{known_txn}
+use Rattle.raid_asks.proofs.Line.{FineAt, CountsAt}
 use Rattle.raid_asks.proofs.Programs.{begun_by}
 use Rattle.raid_asks.proofs.Steps.{Steps, hear_steps, finish_steps}
 use Rattle.raid_asks.proofs.Turns.{IsHello, Now, sleeping, welcomed, awake as runs, gone, Then, steps_then}

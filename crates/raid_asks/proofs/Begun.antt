@@ -1,13 +1,11 @@
 -- The sequencer takes a Begin: the transaction may begin, and does.
-use Rattle.std.proofs.Common.{◌≡◌, ◌≢◌, ◌⊎◌, inl, inr, ℕ, ◌+◌, ◌*◌, ◌<◌, ◌≤◌, ◌==◌, nat_lt, Bool, true, false, not, ◌&&◌, ◌||◌, List, [], ◌∷◌, ◌++◌, length, find, Option, Some, None, if◌then◌else◌, arith, sym, subst, ap, ◌∙◌, refl}
+use Rattle.std.proofs.Common.{◌≡◌, inl, inr, ℕ, ◌+◌, ◌*◌, ◌<◌, ◌==◌, nat_lt, Bool, true, false, not, ◌&&◌, ◌||◌, List, [], ◌∷◌, length, Option, Some, None, arith, sym, subst, ap, ◌∙◌, refl}
 use Rattle.std.specs.List.{AllByRecursion}
 use Rattle.std.specs.Option.{option_map_or}
 use Rattle.std.proofs.lemmas.Bool.{and_parts, and_from, eqb-true, true≢false}
 use Rattle.std.proofs.lemmas.Grind.{common_steps}
 use Rattle.raid_base.specs.declared.names.Txn.{Txn}
 use Rattle.raid_base.specs.declared.names.Site.{Site}
-use Rattle.raid_base.specs.declared.entry.Entry.{Entry}
-use Rattle.raid_base.specs.declared.entry.Entry.TheVariants.{Begin}
 use Rattle.raid_base.specs.declared.entry.Noted.{Noted}
 use Rattle.raid_base.specs.Names.{is_txn, is_site, has_txn}
 use Rattle.raid_workload.specs.declared.workload.Workload.{Workload}
@@ -21,8 +19,8 @@ use Rattle.raid_message.specs.declared.letter.Message.TheVariants as letters
 use Rattle.raid_message.specs.declared.letter.Letter.{Letter}
 use Rattle.raid_steps.specs.Programs.{next_attempt}
 use Rattle.raid_steps.specs.State.{Running}
-use Rattle.raid_asks.proofs.Facts.{or_left, or_right, or_parts}
-use Rattle.raid_asks.proofs.Least.{txn, Found, Least, least, txn_known, known_txn, Ours, IsFirst}
+use Rattle.raid_asks.proofs.Facts.{or_left, or_right}
+use Rattle.raid_asks.proofs.Least.{Least, least, txn_known, known_txn, IsFirst}
 use Rattle.raid_asks.proofs.Line.{Due, Line, IsAfter, Counts, Promise, FineAt, NoteOk, Notes, CountsAt, below_is}
 
 module _ (w : Workload) (s : Site) (p : List Noted) (t : Txn) (bs : List Txn) (n : ℕ) (line : Line w s p (t ∷ bs)) (counts : Counts w s p (t ∷ bs) n) where
@@ -112,7 +110,7 @@ module _ (w : Workload) (s : Site) (p : List Noted) (t : Txn) (bs : List Txn) (n
 
     line_left : (us : List Txn) → AllByRecursion (IsAfter w s p t) us → Line w s p us → Line w s q us
     line_left [] a l = tt
-    line_left (u ∷ us) a l = (record { ours = l.0.ours; fresh = unlike u a.0.0 ∙ l.0.fresh; turn = elim l.0.turn [ | inl first ↦ inl first | inr later ↦ inr (again_kept u later) ] }, (l.1.0, line_left us a.1 l.1.1))
+    line_left (u ∷ us) a l = (record { ours = l.0.ours; fresh = unlike u a.0.0 ∙ l.0.fresh; turn = elim l.0.turn [ inl first ↦ inl first | inr later ↦ inr (again_kept u later) ] }, (l.1.0, line_left us a.1 l.1.1))
 
     regroup : (a b c : Bool) → ((a || b) || c) ≡ (a || (b || c))
     regroup true b c = refl

@@ -1,29 +1,27 @@
 -- Of each program that runs at a site of a reached world, the Begin is on its way exactly where the history hasn't it: what holds, and that a
 -- step of the site keeps it.
-use Rattle.std.proofs.Common.{◌≡◌, ◌≢◌, ◌⊎◌, inl, inr, ℕ, zero, suc, ◌+◌, ◌<◌, ◌≤◌, ◌==◌, nat_le, Bool, true, false, not, ◌&&◌, ◌||◌, List, [], ◌∷◌, ◌++◌, length, if◌then◌else◌, arith, sym, subst, ap, ◌∙◌, refl, append-nil, append_assoc}
+use Rattle.std.proofs.Common.{◌≡◌, ℕ, suc, ◌+◌, ◌<◌, ◌≤◌, ◌==◌, Bool, true, false, List, [], ◌∷◌, ◌++◌, if◌then◌else◌, arith, sym, subst, ap, ◌∙◌, refl, append-nil, append_assoc}
 use Rattle.std.specs.Prelude.{⊤}
 use Rattle.std.specs.List.{AllByRecursion}
-use Rattle.std.proofs.lemmas.Bool.{and_from, eqb-true, true≢false}
-use Rattle.std.proofs.lemmas.Grind.{common_steps}
+use Rattle.std.proofs.lemmas.Bool.{true≢false}
 use Rattle.raid_base.specs.declared.names.Txn.{Txn}
 use Rattle.raid_base.specs.declared.names.Site.{Site}
 use Rattle.raid_base.specs.declared.entry.Noted.{Noted}
-use Rattle.raid_base.specs.Sites.{session, site}
+use Rattle.raid_base.specs.Sites.{site}
 use Rattle.raid_workload.specs.declared.workload.Workload.{Workload}
 use Rattle.raid_rules.specs.Sessions.{last_session}
 use Rattle.raid_message.specs.declared.letter.Message.{Message}
 use Rattle.raid_message.specs.declared.letter.Message.TheVariants as letters
 use Rattle.raid_message.specs.declared.letter.Letter.{Letter}
-use Rattle.raid_steps.specs.State.{Out, Turn, Running, SiteState, opened}
-use Rattle.raid_steps.specs.Fits.{knows_vector, is_of_sequencer}
+use Rattle.raid_steps.specs.State.{Out, Turn, Running, SiteState}
 use Rattle.raid_steps.specs.Site as rows
-use Rattle.raid_sessions.proofs.Lists.{all_append, is_same}
+use Rattle.raid_sessions.proofs.Lists.{is_same}
 use Rattle.raid_sessions.proofs.Mail.{letter_of, letters_to}
 use Rattle.raid_asks.specs.Own.{Ascend}
-use Rattle.raid_asks.proofs.Least.{Ours, IsFirst, IsNext, known_txn}
-use Rattle.raid_asks.proofs.Line.{Due, Line, line_due, Counts, FineAt, Notes, NoteOk, Promise, NoDrop, CountsAt, FineNow, CountsNow, next_begins, begins_again, drops}
-use Rattle.raid_asks.proofs.Notes.{IsPlain, Welcoming, WelcomeOk}
-use Rattle.raid_asks.proofs.Programs.{begun_by, told, Keeps, Kept, BeginsNext, BeginsAgain, hears_sequencer, hears_site}
+use Rattle.raid_asks.proofs.Least.{Ours}
+use Rattle.raid_asks.proofs.Line.{FineAt, NoteOk, CountsAt, FineNow, CountsNow, next_begins, begins_again}
+use Rattle.raid_asks.proofs.Notes.{IsPlain, Welcoming}
+use Rattle.raid_asks.proofs.Programs.{begun_by, told, Keeps, Kept, BeginsNext, hears_sequencer, hears_site}
 
 -- the transactions whose Begins are among the letters of a session, in order
 abbrev pub begins : ℕ → List Letter → List Txn

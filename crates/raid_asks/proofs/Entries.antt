@@ -1,6 +1,5 @@
 -- What one more entry of the history does to a site: what holds of its programs, of its Begins on the way, and of what it is told.
-use Rattle.std.proofs.Common.{◌≡◌, ◌≢◌, ◌⊎◌, inl, inr, ℕ, ◌+◌, ◌-◌, ◌*◌, ◌<◌, ◌≤◌, ◌==◌, nat_lt, Bool, true, false, not, ◌&&◌, ◌||◌, List, [], ◌∷◌, ◌++◌, length, map, filter, flat_map, if◌then◌else◌, arith, sym, subst, ap, ◌∙◌, refl, append_assoc}
-use Rattle.std.specs.Prelude.{⊤}
+use Rattle.std.proofs.Common.{◌≡◌, ◌⊎◌, inl, inr, ℕ, ◌+◌, ◌<◌, ◌≤◌, ◌==◌, nat_lt, Bool, true, false, not, ◌&&◌, ◌||◌, List, [], ◌∷◌, ◌++◌, length, arith, sym, subst, ap, ◌∙◌, refl}
 use Rattle.std.specs.List.{AllByRecursion, list_any}
 use Rattle.std.proofs.lemmas.Bool.{and_parts, and_from, eqb-true, true≢false}
 use Rattle.std.proofs.lemmas.Grind.{common_steps}
@@ -10,31 +9,27 @@ use Rattle.raid_base.specs.declared.names.Site.{Site}
 use Rattle.raid_base.specs.declared.entry.Act.{Act}
 use Rattle.raid_base.specs.declared.entry.Cause.{Cause}
 use Rattle.raid_base.specs.declared.entry.Entry.{Entry}
-use Rattle.raid_base.specs.declared.entry.Entry.TheVariants.{Begin, Read, Wait, Commit, Abort, Ack, SwitchOn, SwitchEnd, Down, Up, Clear}
+use Rattle.raid_base.specs.declared.entry.Entry.TheVariants.{Begin, Abort}
 use Rattle.raid_base.specs.declared.entry.Noted.{Noted}
 use Rattle.raid_base.specs.Names.{is_txn, is_site, has_txn}
-use Rattle.raid_base.specs.Sites.{session, site}
+use Rattle.raid_base.specs.Sites.{site}
 use Rattle.raid_workload.specs.declared.workload.Workload.{Workload}
-use Rattle.raid_workload.specs.Parts.{txns, sites, home}
+use Rattle.raid_workload.specs.Parts.{txns, home}
 use Rattle.raid_rules.specs.Entries.{is_begin_of, is_abort_of, is_end_of, is_down}
 use Rattle.raid_rules.specs.History.{noted, add, next, has_begun, has_aborted, has_ended, is_running}
-use Rattle.raid_rules.specs.Sessions.{last_session, turn_vector}
-use Rattle.raid_rules.proofs.Push.{noted_push, has_begun_push, vector_push, same_txn}
+use Rattle.raid_rules.proofs.Push.{noted_push, has_begun_push, same_txn}
 use Rattle.raid_legal.specs.Seen.{attempt, again, previous, vector, is_up, is_restart, is_restartable, has_down_after}
-use Rattle.raid_message.specs.declared.letter.Message.{Message}
 use Rattle.raid_message.specs.declared.letter.Message.TheVariants as letters
 use Rattle.raid_message.specs.declared.letter.Letter.{Letter}
 use Rattle.raid_steps.specs.Programs.{next_attempt}
 use Rattle.raid_steps.specs.Sequencer as seq
-use Rattle.raid_steps.specs.State.{Out, Running, to_site}
 use Rattle.raid_placed.specs.Placed.{Placed, Placeable}
 use Rattle.raid_placed.proofs.Orderly.{placed_known, placeable_follows}
-use Rattle.raid_sessions.proofs.Ledger.{is_still}
 use Rattle.raid_sessions.proofs.Mail.{letters_to}
-use Rattle.raid_asks.proofs.Facts.{Order, placed_order, any_weaken, or_left, or_right, again_aborted, begin_may, may_parts, still_begun}
-use Rattle.raid_asks.proofs.Least.{Ours, attempt_next, home_next, previous_next}
-use Rattle.raid_asks.proofs.Line.{Due, Line, Promise, line_due, all_in, again_later}
-use Rattle.raid_asks.proofs.Notes.{IsPlain, New, AtMostOne, plain_new, drop_new, sent_once}
+use Rattle.raid_asks.proofs.Facts.{Order, placed_order, any_weaken, or_left, or_right, again_aborted, begin_may, may_parts}
+use Rattle.raid_asks.proofs.Least.{attempt_next, home_next, previous_next}
+use Rattle.raid_asks.proofs.Line.{Due, Line, Promise}
+use Rattle.raid_asks.proofs.Notes.{New, drop_new, sent_once}
 use Rattle.raid_asks.proofs.Steps.{Why}
 
 no_more : (b : Bool) → (b || false) ≡ b

@@ -1,9 +1,8 @@
 -- What placed histories say of the order in which transactions begin.
-use Rattle.std.proofs.Common.{◌≡◌, ◌⊎◌, inl, inr, ℕ, ◌+◌, ◌*◌, ◌<◌, ◌≤◌, ◌==◌, nat_lt, Bool, true, false, not, ◌&&◌, ◌||◌, List, [], ◌∷◌, ◌++◌, length, length-append, find, Option, Some, None, arith, sym, subst, ap, ◌∙◌, refl}
+use Rattle.std.proofs.Common.{◌≡◌, ◌⊎◌, inl, inr, ℕ, ◌+◌, ◌*◌, ◌<◌, ◌≤◌, ◌==◌, nat_lt, Bool, true, false, not, ◌&&◌, ◌||◌, List, [], ◌∷◌, ◌++◌, length, length-append, Option, Some, None, arith, sym, subst, ap, ◌∙◌, refl}
 use Rattle.std.specs.List.{AllByRecursion, list_any}
 use Rattle.std.specs.Option.{option_map_or}
-use Rattle.std.proofs.lemmas.Bool.{and_parts, and_from, eqb-true, true≢false}
-use Rattle.std.proofs.lemmas.Grind.{common_steps}
+use Rattle.std.proofs.lemmas.Bool.{and_parts, true≢false}
 use Rattle.std.proofs.lemmas.List.Folds.{list_any-append}
 use Rattle.raid_base.specs.declared.names.Txn.{Txn}
 use Rattle.raid_base.specs.declared.names.Site.{Site}
@@ -13,17 +12,17 @@ use Rattle.raid_base.specs.declared.entry.Noted.{Noted}
 use Rattle.raid_base.specs.Names.{is_txn, is_site, has_txn}
 use Rattle.raid_workload.specs.declared.workload.Workload.{Workload}
 use Rattle.raid_workload.specs.Parts.{txns, home}
-use Rattle.raid_rules.specs.Entries.{is_begin_of, is_abort_of, is_down}
+use Rattle.raid_rules.specs.Entries.{is_begin_of, is_abort_of}
 use Rattle.raid_rules.specs.History.{noted, add, next, has_begun, has_aborted}
 use Rattle.raid_rules.proofs.Places.{by_last}
 use Rattle.raid_rules.proofs.Push.{noted_push, has_begun_push, same_txn}
 use Rattle.raid_legal.specs.Forced.{forced}
 use Rattle.raid_legal.specs.Legal.{may_begin}
 use Rattle.raid_legal.specs.Seen.{attempt, again, previous, next_of, is_up, is_restart, is_restartable, has_down_after}
-use Rattle.raid_legal.proofs.Left.{Compels, forced_compels}
+use Rattle.raid_legal.proofs.Left.{forced_compels}
 use Rattle.raid_placed.specs.Placed.{Placed, Placeable, Goes}
 use Rattle.raid_placed.proofs.Sent.{placed_push}
-use Rattle.raid_asks.proofs.Least.{Found, Least, least, known_txn, IsFirst}
+use Rattle.raid_asks.proofs.Least.{Least, least, known_txn, IsFirst}
 
 pub or_left : (a b : Bool) → a ≡ true → (a || b) ≡ true
 or_left true b q = refl
@@ -90,16 +89,16 @@ module _ (w : Workload) where
 
   order_add : (p : List Noted) (e : Entry) → Order p → Placeable w p e → Order (add p e)
   order_add p e o q = record {
-      numbered = subst (λ k. AllByRecursion (λ (n : Noted). n.at ≤ k) (add p e)) (sym (length-append p (next p e ∷ []))) (all_add (length p) p (next p e) o.numbered (omega arith));
-      restarted = λ t b. elim (or_parts (has_begun p t) (is_begin_of t e) (sym (has_begun_push p (next p e) t) ∙ b)) [
-        | inl old ↦ later t (o.restarted t old)
-        | inr new ↦ later t (begun_now e q t new)
-      ];
-      closed = λ s t u f g less b. elim (or_parts (has_begun p t) (is_begin_of t e) (sym (has_begun_push p (next p e) t) ∙ b)) [
-        | inl old ↦ still_begun p e u (o.closed s t u f g less old)
-        | inr new ↦ still_begun p e u (before e q s t u f g less new)
-      ];
-    }
+    numbered = subst (λ k. AllByRecursion (λ (n : Noted). n.at ≤ k) (add p e)) (sym (length-append p (next p e ∷ []))) (all_add (length p) p (next p e) o.numbered (omega arith));
+    restarted = λ t b. elim (or_parts (has_begun p t) (is_begin_of t e) (sym (has_begun_push p (next p e) t) ∙ b)) [
+      | inl old ↦ later t (o.restarted t old)
+      | inr new ↦ later t (begun_now e q t new)
+    ];
+    closed = λ s t u f g less b. elim (or_parts (has_begun p t) (is_begin_of t e) (sym (has_begun_push p (next p e) t) ∙ b)) [
+      | inl old ↦ still_begun p e u (o.closed s t u f g less old)
+      | inr new ↦ still_begun p e u (before e q s t u f g less new)
+    ];
+  }
     where
       aborted_later : (t : Txn) → has_aborted p t ≡ true → has_aborted (add p e) t ≡ true
       aborted_later t h = list_any-append (λ n. is_abort_of t n.entry) p (next p e ∷ []) ∙ or_left _ _ h
@@ -131,8 +130,8 @@ module _ (w : Workload) where
           let same = same_txn v t b in
           elim (or_parts (option_map_or (is_txn v) (next_of w p (home w v)) false) (again w p v) m.2) [
             | inl first ↦
-              let l = (least_first v (home w v) (next_of w p (home w v)) (least (λ t. attempt w t == 0 && is_site (home w v) (home w t) && not (has_begun p t)) 1 (length w.programs * (w.restarts + 1))) first).1 u.0 (known_txn w u g.ours.known).0 (subst (λ t. u.0 < t.0) (sym same) less) in
-              begun_else (attempt w u == 0) (is_site (home w v) (home w u)) (has_begun p u) g.first (at_home s (home w v) (home w u) (ap (λ t. is_site s (home w t)) same ∙ f.ours.at) g.ours.at) l
+                let l = (least_first v (home w v) (next_of w p (home w v)) (least (λ t. attempt w t == 0 && is_site (home w v) (home w t) && not (has_begun p t)) 1 (length w.programs * (w.restarts + 1))) first).1 u.0 (known_txn w u g.ours.known).0 (subst (λ t. u.0 < t.0) (sym same) less) in
+                begun_else (attempt w u == 0) (is_site (home w v) (home w u)) (has_begun p u) g.first (at_home s (home w v) (home w u) (ap (λ t. is_site s (home w t)) same ∙ f.ours.at) g.ours.at) l
             | inr due ↦ absurd (true≢false (sym (ap (λ t. attempt w t == 0) same ∙ f.first) ∙ not_first v due))
           ]
         where

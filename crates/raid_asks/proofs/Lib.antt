@@ -1,4 +1,5 @@
 pub mod AtSequencer
+pub mod Begins
 pub mod Begun
 pub mod Cares
 pub mod Entries

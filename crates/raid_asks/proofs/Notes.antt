@@ -1,12 +1,12 @@
 -- What the sequencer tells a site as the history grows: the Welcome, the drops, and letters that begin nothing.
-use Rattle.std.proofs.Common.{◌≡◌, ◌⊎◌, inl, inr, ℕ, zero, suc, ◌+◌, ◌<◌, ◌≤◌, ◌==◌, Bool, true, false, not, ◌&&◌, ◌||◌, List, [], ◌∷◌, ◌++◌, length, map, filter, if◌then◌else◌, arith, sym, subst, ap, ◌∙◌, refl}
+use Rattle.std.proofs.Common.{◌≡◌, ◌⊎◌, inl, inr, ℕ, zero, suc, ◌+◌, ◌<◌, ◌==◌, Bool, true, false, not, ◌||◌, List, [], ◌∷◌, ◌++◌, map, filter, if◌then◌else◌, arith, sym, subst, ap, ◌∙◌, refl}
 use Rattle.std.specs.Prelude.{⊤}
 use Rattle.std.specs.List.{AllByRecursion}
-use Rattle.std.proofs.lemmas.Bool.{eqb-true, true≢false}
+use Rattle.std.proofs.lemmas.Bool.{eqb-true}
 use Rattle.raid_base.specs.declared.names.Txn.{Txn}
 use Rattle.raid_base.specs.declared.names.Site.{Site}
 use Rattle.raid_base.specs.declared.entry.Noted.{Noted}
-use Rattle.raid_base.specs.Names.{is_txn, is_site, has_txn}
+use Rattle.raid_base.specs.Names.{is_site, has_txn}
 use Rattle.raid_base.specs.Sites.{session, site}
 use Rattle.raid_workload.specs.declared.workload.Workload.{Workload}
 use Rattle.raid_workload.specs.Parts.{home, count_from}
@@ -20,8 +20,7 @@ use Rattle.raid_steps.specs.Programs.{next_attempt}
 use Rattle.raid_steps.specs.State.{Out, Running, to_site}
 use Rattle.raid_sessions.proofs.Lists.{all_append}
 use Rattle.raid_sessions.proofs.Mail.{letter_of, letters_to}
-use Rattle.raid_asks.proofs.Least.{Ours, IsFirst}
-use Rattle.raid_asks.proofs.Line.{drops, Due, Line, IsAfter, Counts, Promise, FineAt, NoDrop, NoteOk, Notes, CountsAt}
+use Rattle.raid_asks.proofs.Line.{drops, Line, Counts, Promise, FineAt, NoDrop, NoteOk, Notes, CountsAt}
 
 -- neither a Welcome nor a Drop
 abbrev pub IsPlain : Message → Type 0
@@ -128,7 +127,7 @@ module _ (w : Workload) (s : Site) (m : ℕ) where
   module _ (p q : List Noted) (begun_same : (u : Txn) → is_site s (home w u) ≡ true → has_begun q u ≡ has_begun p u) (again_kept : (u : Txn) → is_site s (home w u) ≡ true → again w p u ≡ true → again w q u ≡ true) where
     line_kept : (bs : List Txn) → Line w s p bs → Line w s q bs
     line_kept [] l = tt
-    line_kept (t ∷ bs) l = (record { ours = l.0.ours; fresh = begun_same t l.0.ours.at ∙ l.0.fresh; turn = elim l.0.turn [ | inl first ↦ inl first | inr due ↦ inr (again_kept t l.0.ours.at due) ] }, (l.1.0, line_kept bs l.1.1))
+    line_kept (t ∷ bs) l = (record { ours = l.0.ours; fresh = begun_same t l.0.ours.at ∙ l.0.fresh; turn = elim l.0.turn [ inl first ↦ inl first | inr due ↦ inr (again_kept t l.0.ours.at due) ] }, (l.1.0, line_kept bs l.1.1))
 
     pub fine_kept : (bs : List Txn) (rs : List Running) → AllByRecursion (λ (r : Running). FineAt w s p bs r.txn) rs → AllByRecursion (λ (r : Running). FineAt w s q bs r.txn) rs
     fine_kept bs [] a = tt

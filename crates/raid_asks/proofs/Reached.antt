@@ -26,7 +26,7 @@ own_of w k [] a = tt
 own_of w k (r ∷ rs) a = ((a.0.known, a.0.at), own_of w k rs a.1)
 
 -- a site's state, and what it is told, at the start
-first_state : (w : Workload) (a n k : ℕ) (state : SiteState) → slice_get (map (first_site w) (map site (count_from a n))) k ≡ Some state → first_site w (site (a + k)) ≡ state
+pub first_state : (w : Workload) (a n k : ℕ) (state : SiteState) → slice_get (map (first_site w) (map site (count_from a n))) k ≡ Some state → first_site w (site (a + k)) ≡ state
 first_state w a zero k state q = absurd (nothing q) where
   nothing : None ≡ Some state → ⊥
   nothing q = cc q
@@ -42,7 +42,7 @@ first_state w a (suc n) (suc k) state q = ap (λ k. first_site w (site k)) (plac
     place : (a k : ℕ) → a + suc k ≡ a + 1 + k
     place a k = omega arith
 
-first_notes : (w : Workload) (a n k : ℕ) (state : SiteState) → slice_get (map (first_site w) (map site (count_from a n))) k ≡ Some state → slice_index_or (slice_index_or (map (first_links w) (map site (count_from a n))) k []) 1 [] ≡ first_letter w (site (a + k)) ∷ []
+pub first_notes : (w : Workload) (a n k : ℕ) (state : SiteState) → slice_get (map (first_site w) (map site (count_from a n))) k ≡ Some state → slice_index_or (slice_index_or (map (first_links w) (map site (count_from a n))) k []) 1 [] ≡ first_letter w (site (a + k)) ∷ []
 first_notes w a zero k state q = absurd (nothing q) where
   nothing : None ≡ Some state → ⊥
   nothing q = cc q
@@ -82,7 +82,7 @@ module _ (w : Workload) where
   hear_home s links (suc (suc k)) from clock l rest front holds homes =
       at_home s links k from clock l rest (from_below (w.sites + 2) links (suc (suc k)) from l rest holds.square front) front holds homes (slice_get s.sites k) refl (server_below (w.sites + 2) links (suc (suc k)) from l rest holds.square front)
 
-  front_home : (s : World) (server from : ℕ) (queue : List Letter) → link s.links server from ≡ queue → sessions.Reached w s → AtHome s → AtHome (take_front w s server from queue)
+  pub front_home : (s : World) (server from : ℕ) (queue : List Letter) → link s.links server from ≡ queue → sessions.Reached w s → AtHome s → AtHome (take_front w s server from queue)
   front_home s server from [] q r h = h
   front_home s server from (l ∷ rest) q r h = hear_home s.servers s.links server from (1 + max (slice_index s.clocks server) l.clock) l rest q r h
 
@@ -90,7 +90,7 @@ module _ (w : Workload) where
   picks_home s [] r h = h
   picks_home s (p ∷ ps) r h = picks_home (pick w s p) ps (sessions.front_reached w s p.server p.from (link s.links p.server p.from) refl r) (front_home s p.server p.from (link s.links p.server p.from) refl r h)
 
-  open_home : AtHome (open_world w)
+  pub open_home : AtHome (open_world w)
   open_home k state q =
       let one = first_state w 1 w.sites k state q in
       let place : site (1 + k) ≡ site (k + 1) = ap site (let e : 1 + k ≡ k + 1 = omega arith in e) in

@@ -1,6 +1,5 @@
 -- A site's step keeps what holds of its programs and of its Begins on the way.
-use Rattle.std.proofs.Common.{◌≡◌, ◌≢◌, ◌⊎◌, inl, inr, ℕ, zero, suc, ◌+◌, ◌*◌, ◌<◌, ◌≤◌, ◌==◌, nat_le, Bool, true, false, not, ◌&&◌, List, [], ◌∷◌, ◌++◌, length, if◌then◌else◌, arith, sym, subst, ap, ◌∙◌, refl, append-nil}
-use Rattle.std.specs.Prelude.{⊤}
+use Rattle.std.proofs.Common.{◌≡◌, inl, inr, ℕ, suc, ◌+◌, ◌*◌, ◌<◌, ◌≤◌, ◌==◌, nat_le, Bool, true, false, ◌&&◌, List, [], ◌∷◌, ◌++◌, length, if◌then◌else◌, arith, sym, subst, ap, ◌∙◌, refl, append-nil}
 use Rattle.std.specs.List.{AllByRecursion}
 use Rattle.std.proofs.lemmas.Bool.{and_from, eqb-true, true≢false}
 use Rattle.raid_base.specs.declared.names.Txn.{Txn}
@@ -15,15 +14,15 @@ use Rattle.raid_steps.specs.State.{Out, Turn, Running, SiteState, opened, with_s
 use Rattle.raid_steps.specs.Fits.{knows_vector, is_of_sequencer}
 use Rattle.raid_steps.specs.Programs as programs
 use Rattle.raid_steps.specs.Site as rows
-use Rattle.raid_sessions.proofs.Lists.{all_append, all_weaken, is_same}
+use Rattle.raid_sessions.proofs.Lists.{all_append, all_weaken}
 use Rattle.raid_sessions.proofs.Mail.{letter_of, letters_to}
 use Rattle.raid_sessions.proofs.Site.{Stays, hears_server}
 use Rattle.raid_asks.specs.Own.{Ascend}
 use Rattle.raid_asks.proofs.Cares.{begins, begins_append, begins_told, none_later, here, IsOurs, AreOurs, Stage, stopped, asleep, fresh, awake, Cares, Still, still_heard, still_told, Runs, runs_turn, runs_heard, runs_told}
-use Rattle.raid_asks.proofs.Least.{Ours, IsFirst, IsNext, known_txn}
-use Rattle.raid_asks.proofs.Line.{Due, Line, line_due, Counts, FineAt, Notes, CountsAt, FineNow, CountsNow, next_begins}
-use Rattle.raid_asks.proofs.Notes.{IsPlain, Welcoming, WelcomeOk}
-use Rattle.raid_asks.proofs.Programs.{begun_by, told, Kept, Keeps, starts, asks_commits}
+use Rattle.raid_asks.proofs.Least.{Ours, known_txn}
+use Rattle.raid_asks.proofs.Line.{Line, CountsAt, FineNow, CountsNow, next_begins}
+use Rattle.raid_asks.proofs.Notes.{Welcoming, WelcomeOk}
+use Rattle.raid_asks.proofs.Programs.{begun_by, told, Kept, starts, asks_commits}
 
 module _ (w : Workload) (k : ℕ) (p : List Noted) where
   -- what is told is of the site's own
@@ -131,10 +130,10 @@ module _ (w : Workload) (k : ℕ) (p : List Noted) where
 
       pub restarts : state.up ≡ false → (message : Message) → Cares w k p (rows.return state message).state (asks ++ letters_to 1 (rows.return state message).state.session clock (rows.return state message).outs) notes
       restarts down letters.Return = record {
-          sent = all_append (λ (l : Letter). l.from ≤ state.session + 1) asks (hello ∷ []) (all_weaken (λ (l : Letter). l.from ≤ state.session) (λ (l : Letter). l.from ≤ state.session + 1) asks (λ l q. omega (arith, q)) c.sent) (omega arith, tt);
-          known = all_append (λ (l : Letter). IsOurs w k l.message) asks (hello ∷ []) c.known (tt, tt);
-          stage = idle c.stage;
-        }
+        sent = all_append (λ (l : Letter). l.from ≤ state.session + 1) asks (hello ∷ []) (all_weaken (λ (l : Letter). l.from ≤ state.session) (λ (l : Letter). l.from ≤ state.session + 1) asks (λ l q. omega (arith, q)) c.sent) (omega arith, tt);
+        known = all_append (λ (l : Letter). IsOurs w k l.message) asks (hello ∷ []) c.known (tt, tt);
+        stage = idle c.stage;
+      }
         where
           hello : Letter
           hello = record { clock = clock; from = state.session + 1; to = 0; message = letters.Hello }

@@ -8,7 +8,7 @@ use Rattle.std.proofs.lemmas.Grind.{common_steps}
 use Rattle.raid_base.specs.declared.names.Txn.{Txn}
 use Rattle.raid_base.specs.declared.names.Site.{Site}
 use Rattle.raid_base.specs.declared.entry.Entry.{Entry}
-use Rattle.raid_base.specs.declared.entry.Entry.TheVariants.{Begin, Read, Wait, Commit, Abort, Ack, SwitchOn, SwitchEnd, Down, Up, Clear}
+use Rattle.raid_base.specs.declared.entry.Entry.TheVariants.{Read, Commit, Abort, Down, Up}
 use Rattle.raid_base.specs.declared.entry.Noted.{Noted}
 use Rattle.raid_base.specs.Names.{is_site, has_site}
 use Rattle.raid_base.specs.Sites.{session, site}
@@ -18,14 +18,13 @@ use Rattle.raid_rules.specs.Entries.{is_down}
 use Rattle.raid_rules.specs.History.{noted, next, has_begun}
 use Rattle.raid_rules.specs.Sessions.{last_session, turn_vector}
 use Rattle.raid_rules.proofs.Push.{noted_push, vector_push}
-use Rattle.raid_legal.specs.Seen.{attempt, vector, is_up, again}
+use Rattle.raid_legal.specs.Seen.{attempt, vector, is_up}
 use Rattle.raid_message.specs.declared.letter.Message.{Message}
 use Rattle.raid_message.specs.declared.letter.Message.TheVariants as letters
 use Rattle.raid_message.specs.declared.letter.Letter.{Letter}
 use Rattle.raid_steps.specs.Sequencer as seq
 use Rattle.raid_steps.specs.Sequencer.{so_far, place}
 use Rattle.raid_steps.specs.State.{Out, Turn, Sequencer, Running, opened, to_site}
-use Rattle.raid_steps.specs.Fits.{knows_vector}
 use Rattle.raid_placed.specs.Placed.{Placed, Placeable}
 use Rattle.raid_placed.proofs.Heard.{down_not_up}
 use Rattle.raid_placed.proofs.Sent.{placed_push}
@@ -36,7 +35,7 @@ use Rattle.raid_sessions.proofs.Mail.{same_or_not, letter_of, letters_to}
 use Rattle.raid_asks.proofs.Entries.{IsQuiet, begun_same, quiet_on, again_same, abort_new}
 use Rattle.raid_asks.proofs.Facts.{Order, placed_order}
 use Rattle.raid_asks.proofs.Homes.{next_ours}
-use Rattle.raid_asks.proofs.Least.{Found, Least, least, txn_known, known_txn, IsFirst}
+use Rattle.raid_asks.proofs.Least.{Least, least, txn_known, known_txn, IsFirst}
 use Rattle.raid_asks.proofs.Line.{Line, Counts, FineAt, Notes, CountsAt}
 use Rattle.raid_asks.proofs.Notes.{IsPlain, New, Welcoming, letters_append, all_sent, plain_new, fine_kept, counts_on, welcoming_on}
 use Rattle.raid_asks.proofs.Steps.{IsOther, AreOther, Why, Steps, done, placed, passes}

@@ -10,9 +10,17 @@ ghost use Rattle.raid_message.specs.declared.letter.Pick.{Pick};
 ghost use Rattle.raid_steps.specs.State.{SiteState};
 ghost use Rattle.raid_steps.specs.World.{run};
 ghost use Rattle.raid_asks.specs.Own.{RunsOwn};
+ghost use Rattle.raid_asks.specs.Way.{HaveBegun};
 
 /// Whatever steps were taken: at each site run programs of the site's own transactions alone, attempts counted, and no transaction has two.
 #[tactic(auto, using(crate::proofs::Reached::run_home))]
 pub fn programs_run_at_their_homes()
     ensures { (w : Workload) (schedule : List Pick) (k : ℕ) (s : SiteState) → slice_get (run w schedule).servers.sites k ≡ Some s → RunsOwn w k s }
+{}
+
+/// Whatever steps were taken: of each program that runs at a site the history has the Begin, or else the Begin is on its way to the
+/// sequencer, sent in the site's present session; never both.
+#[tactic(auto, using(crate::proofs::Begins::run_begun))]
+pub fn programs_that_run_have_begun()
+    ensures { (w : Workload) (schedule : List Pick) (k : ℕ) (s : SiteState) → slice_get (run w schedule).servers.sites k ≡ Some s → HaveBegun (run w schedule) k s }
 {}
