@@ -25,13 +25,18 @@ use Rattle.raid_sessions.proofs.Reached as sessions
 use Rattle.raid_sessions.proofs.Reached.{from_below, server_below}
 use Rattle.raid_asks.specs.Way as way
 use Rattle.raid_asks.specs.Way.{is_on_its_way, HaveBegun}
+use Rattle.std.proofs.lemmas.Bool.{true≢false}
+use Rattle.raid_base.specs.declared.entry.Noted.{Noted}
+use Rattle.raid_legal.specs.Seen.{is_up}
+use Rattle.raid_sessions.specs.Present.{last_told}
+use Rattle.raid_asks.proofs.Begun.{begins_now}
 use Rattle.raid_asks.proofs.Cares.{begins, Stage, stopped, asleep, fresh, awake, Cares}
 use Rattle.raid_asks.proofs.Homes.{Homes}
 use Rattle.raid_asks.proofs.Least.{following_is, known_txn}
-use Rattle.raid_asks.proofs.Line.{Counts, FineAt}
+use Rattle.raid_asks.proofs.Line.{IsAfter, Line, Counts, FineAt}
 use Rattle.raid_asks.proofs.Programs.{begun_by}
 use Rattle.raid_asks.proofs.Reached.{first_state, first_notes, front_home, open_home}
-use Rattle.raid_asks.proofs.Waits.{Waits, monitor_waits, sequencer_waits, site_waits}
+use Rattle.raid_asks.proofs.Waits.{is_there, Waits, monitor_waits, sequencer_waits, site_waits}
 
 -- the letters say so
 way_is : (m : ℕ) (t : Txn) (ls : List Letter) → is_on_its_way m t ls ≡ has_txn (begins m ls) t
@@ -127,3 +132,42 @@ module _ (w : Workload) where
       go (asleep u l r n b) = none r
       go (fresh u l r n b e) = none r
       go (awake u l f c) = ways s.running f
+
+  -- the same letters, in the words of the laws
+  begins_same : (m : ℕ) (ls : List Letter) → way.begins_of m ls ≡ begins m ls
+  begins_same m [] = refl
+  begins_same m (l ∷ ls) = go (l.from == m) l.message (begins_same m ls)
+    where
+      go : (b : Bool) (message : Message) → way.begins_of m ls ≡ begins m ls → (if b then way.begun_by message ++ way.begins_of m ls else way.begins_of m ls) ≡ (if b then begun_by message ++ begins m ls else begins m ls)
+      go true (letters.Begin u) q = ap (λ ts. u ∷ ts) q
+      go true other q = q
+      go false message q = q
+
+  absent : (s : Site) (p : List Noted) (t : Txn) (us : List Txn) → AllByRecursion (IsAfter w s p t) us → has_txn us t ≡ false
+  absent s p t [] a = refl
+  absent s p t (u ∷ us) a = ap (λ b. b || has_txn us t) (turned t.0 u.0 a.0.0) ∙ absent s p t us a.1
+    where
+      turned : (a b : ℕ) → (a == b) ≡ false → (b == a) ≡ false
+      turned a b q = grind (arith, q)
+
+  line_new : (s : Site) (p : List Noted) (bs : List Txn) → Line w s p bs → way.AreNew p bs
+  line_new s p [] l = tt
+  line_new s p (t ∷ bs) l = ((l.0.fresh, absent s p t bs l.1.0), line_new s p bs l.1.1)
+
+  first_may : (s : Site) (p : List Noted) (bs : List Txn) (n : ℕ) → is_up w p s ≡ true → Line w s p bs → Counts w s p bs n → way.FirstMay w p bs
+  first_may s p [] n up l c = tt
+  first_may s p (t ∷ bs) n up l c = begins_now w s p t bs n l c up
+
+  pub run_turn : (schedule : List Pick) (k : ℕ) (s : SiteState) → slice_get (run w schedule).servers.sites k ≡ Some s → s.up ≡ true → last_told (run w schedule) k ≡ s.session → way.WaitInTurn w (run w schedule) k s
+  run_turn schedule k s here up present = go ((reached_all schedule).1.1 k s here).stage
+    where
+      in_turn : (bs : List Txn) → begins s.session (link (run w schedule).links 1 (k + 2)) ≡ bs → way.AreNew (noted (run w schedule).servers.sequencer.history) bs → way.FirstMay w (noted (run w schedule).servers.sequencer.history) bs → way.WaitInTurn w (run w schedule) k s
+      in_turn bs q n f = (let same = begins_same s.session (link (run w schedule).links 1 (k + 2)) ∙ q in record { new = subst (way.AreNew (noted (run w schedule).servers.sequencer.history)) (sym same) n; first = subst (way.FirstMay w (noted (run w schedule).servers.sequencer.history)) (sym same) f })
+
+      go : Stage w k (noted (run w schedule).servers.sequencer.history) s.up s.session s.running s.next (begins s.session (link (run w schedule).links 1 (k + 2))) (link (run w schedule).links (k + 2) 1) → way.WaitInTurn w (run w schedule) k s
+      go (stopped d r n) = absurd (true≢false (sym up ∙ d))
+      go (asleep u l r n b) = absurd (let e = present in omega (arith, e, l))
+      go (fresh u l r n b e) = in_turn [] b tt tt
+      go (awake u l f c) =
+          in_turn (begins s.session (link (run w schedule).links 1 (k + 2))) refl (line_new (site (k + 1)) (noted (run w schedule).servers.sequencer.history) (begins s.session (link (run w schedule).links 1 (k + 2))) c.line)
+          (first_may (site (k + 1)) (noted (run w schedule).servers.sequencer.history) (begins s.session (link (run w schedule).links 1 (k + 2))) s.next (is_there w (run w schedule).servers (run w schedule).links (reached_all schedule).0 k s here up l) c.line c.counts)
