@@ -29,14 +29,14 @@ use Rattle.raid_sessions.proofs.Ledger.{last_still, session_still}
 use Rattle.raid_sessions.proofs.Lists.{all_weaken}
 use Rattle.raid_sessions.proofs.Mail.{letters_to}
 use Rattle.raid_asks.proofs.Begun.{begins_now, counts_taken, fine_taken}
-use Rattle.raid_asks.proofs.Cares.{begins, Stage, stopped, asleep, fresh, awake}
+use Rattle.raid_asks.proofs.Cares.{Stage, stopped, asleep, fresh, awake}
 use Rattle.raid_asks.proofs.Entries.{IsQuiet, begun_is, again_on}
 use Rattle.raid_asks.proofs.Facts.{or_right}
 use Rattle.raid_asks.proofs.Least.{known_txn}
 use Rattle.raid_asks.proofs.Line.{FineAt, CountsAt}
-use Rattle.raid_asks.proofs.Programs.{begun_by}
 use Rattle.raid_asks.proofs.Steps.{Steps, hear_steps, finish_steps}
 use Rattle.raid_asks.proofs.Turns.{IsHello, Now, sleeping, welcomed, awake as runs, gone, Then, steps_then}
+use Rattle.raid_asks.specs.Way.{begun_by, begins_of as begins}
 
 -- no Begin among letters of which the first is one more
 fewer : (m : ℕ) (l : Letter) (ls : List Letter) → begins m (l ∷ ls) ≡ [] → begins m ls ≡ []
@@ -49,7 +49,7 @@ fewer m l ls q = go (l.from == m) (begun_by l.message) q
       some q = cc q
     go false ts q = q
 
-module _ (w : Workload) (k from clock : ℕ) (letter : Letter) (s : Sequencer) (state : SiteState) (asks left notes : List Letter) (inside : k < w.sites) (placed : Placed w s.history) (quiet : forced w (noted s.history) ≡ None) where
+module _ (w : Workload) (k from clock : ℕ) (letter : Letter) (s : Sequencer) (state : SiteState) (notes : List Letter) (inside : k < w.sites) (placed : Placed w s.history) (quiet : forced w (noted s.history) ≡ None) where
   abbrev here : Site
   here = site (k + 1)
 

@@ -30,13 +30,13 @@ use Rattle.raid_base.specs.declared.entry.Noted.{Noted}
 use Rattle.raid_legal.specs.Seen.{is_up}
 use Rattle.raid_sessions.specs.Present.{last_told}
 use Rattle.raid_asks.proofs.Begun.{begins_now}
-use Rattle.raid_asks.proofs.Cares.{begins, Stage, stopped, asleep, fresh, awake, Cares}
+use Rattle.raid_asks.proofs.Cares.{Stage, stopped, asleep, fresh, awake, Cares}
 use Rattle.raid_asks.proofs.Homes.{Homes}
 use Rattle.raid_asks.proofs.Least.{following_is, known_txn}
 use Rattle.raid_asks.proofs.Line.{IsAfter, Line, Counts, FineAt}
-use Rattle.raid_asks.proofs.Programs.{begun_by}
 use Rattle.raid_asks.proofs.Reached.{first_state, first_notes, front_home, open_home}
 use Rattle.raid_asks.proofs.Waits.{is_there, Waits, monitor_waits, sequencer_waits, site_waits}
+use Rattle.raid_asks.specs.Way.{begun_by, begins_of as begins}
 
 -- the letters say so
 way_is : (m : ℕ) (t : Txn) (ls : List Letter) → is_on_its_way m t ls ≡ has_txn (begins m ls) t
@@ -133,16 +133,6 @@ module _ (w : Workload) where
       go (fresh u l r n b e) = none r
       go (awake u l f c) = ways s.running f
 
-  -- the same letters, in the words of the laws
-  begins_same : (m : ℕ) (ls : List Letter) → way.begins_of m ls ≡ begins m ls
-  begins_same m [] = refl
-  begins_same m (l ∷ ls) = go (l.from == m) l.message (begins_same m ls)
-    where
-      go : (b : Bool) (message : Message) → way.begins_of m ls ≡ begins m ls → (if b then way.begun_by message ++ way.begins_of m ls else way.begins_of m ls) ≡ (if b then begun_by message ++ begins m ls else begins m ls)
-      go true (letters.Begin u) q = ap (λ ts. u ∷ ts) q
-      go true other q = q
-      go false message q = q
-
   absent : (s : Site) (p : List Noted) (t : Txn) (us : List Txn) → AllByRecursion (IsAfter w s p t) us → has_txn us t ≡ false
   absent s p t [] a = refl
   absent s p t (u ∷ us) a = ap (λ b. b || has_txn us t) (turned t.0 u.0 a.0.0) ∙ absent s p t us a.1
@@ -162,7 +152,7 @@ module _ (w : Workload) where
   run_turn schedule k s here up present = go ((reached_all schedule).1.1 k s here).stage
     where
       in_turn : (bs : List Txn) → begins s.session (link (run w schedule).links 1 (k + 2)) ≡ bs → way.AreNew (noted (run w schedule).servers.sequencer.history) bs → way.FirstMay w (noted (run w schedule).servers.sequencer.history) bs → way.WaitInTurn w (run w schedule) k s
-      in_turn bs q n f = (let same = begins_same s.session (link (run w schedule).links 1 (k + 2)) ∙ q in record { new = subst (way.AreNew (noted (run w schedule).servers.sequencer.history)) (sym same) n; first = subst (way.FirstMay w (noted (run w schedule).servers.sequencer.history)) (sym same) f })
+      in_turn bs q n f = record { new = subst (way.AreNew (noted (run w schedule).servers.sequencer.history)) (sym q) n; first = subst (way.FirstMay w (noted (run w schedule).servers.sequencer.history)) (sym q) f }
 
       go : Stage w k (noted (run w schedule).servers.sequencer.history) s.up s.session s.running s.next (begins s.session (link (run w schedule).links 1 (k + 2))) (link (run w schedule).links (k + 2) 1) → way.WaitInTurn w (run w schedule) k s
       go (stopped d r n) = absurd (true≢false (sym up ∙ d))

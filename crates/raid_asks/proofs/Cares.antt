@@ -21,12 +21,8 @@ use Rattle.raid_asks.specs.Own.{Ascend}
 use Rattle.raid_asks.proofs.Least.{Ours}
 use Rattle.raid_asks.proofs.Line.{FineAt, NoteOk, CountsAt, FineNow, CountsNow, next_begins, begins_again}
 use Rattle.raid_asks.proofs.Notes.{IsPlain, Welcoming}
-use Rattle.raid_asks.proofs.Programs.{begun_by, told, Keeps, Kept, BeginsNext, hears_sequencer, hears_site}
-
--- the transactions whose Begins are among the letters of a session, in order
-abbrev pub begins : ℕ → List Letter → List Txn
-begins m [] = []
-begins m (l ∷ ls) = if l.from == m then begun_by l.message ++ begins m ls else begins m ls
+use Rattle.raid_asks.proofs.Programs.{told, Keeps, Kept, BeginsNext, hears_sequencer, hears_site}
+use Rattle.raid_asks.specs.Way.{begun_by, begins_of as begins}
 
 pub begins_append : (m : ℕ) (xs ys : List Letter) → begins m (xs ++ ys) ≡ begins m xs ++ begins m ys
 begins_append m [] ys = refl

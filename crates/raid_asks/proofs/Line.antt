@@ -275,9 +275,9 @@ module _ (w : Workload) (s : Site) (p : List Noted) where
               subst (λ bs. FineAt bs (txn n)) place (fine_new (before ++ ts) (txn n) c.1.1.1 c.1.0),
             )
 
-        runs_fine : (bs us : List Txn) (t : Txn) (rs : List Running) → AllByRecursion (λ (r : Running). FineAt bs r.txn) rs → list_any (λ (r : Running). is_txn t r.txn) rs ≡ true → Ours w s t
-        runs_fine bs us t [] a q = absurd (true≢false (sym q))
-        runs_fine bs us t (r ∷ rs) a q = go (r.txn.0 == t.0) refl q (λ q. runs_fine bs us t rs a.1 q)
+        runs_fine : (bs : List Txn) (t : Txn) (rs : List Running) → AllByRecursion (λ (r : Running). FineAt bs r.txn) rs → list_any (λ (r : Running). is_txn t r.txn) rs ≡ true → Ours w s t
+        runs_fine bs t [] a q = absurd (true≢false (sym q))
+        runs_fine bs t (r ∷ rs) a q = go (r.txn.0 == t.0) refl q (λ q. runs_fine bs t rs a.1 q)
           where
             go : (b : Bool) → (r.txn.0 == t.0) ≡ b → (b || list_any (λ (r : Running). is_txn t r.txn) rs) ≡ true → (list_any (λ (r : Running). is_txn t r.txn) rs ≡ true → Ours w s t) → Ours w s t
             go true e q others = subst (Ours w s) (same_txn r.txn t e) a.0.0
@@ -287,7 +287,7 @@ module _ (w : Workload) (s : Site) (p : List Noted) where
         begins_again t promised r rs n k here =
             let fine = subst (λ bs. AllByRecursion (λ (r : Running). FineAt bs r.txn) rs) (append-nil before) k.fine in
             let counts = subst (λ bs. CountsAt bs n) (append-nil before) k.counts in
-            let o = runs_fine before [] t rs fine here in
+            let o = runs_fine before t rs fine here in
             let q = promised o.at in
             let x = next_attempt w t in (
               record {

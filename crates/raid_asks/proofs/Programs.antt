@@ -27,11 +27,7 @@ use Rattle.raid_steps.specs.Copies.{copy_of, staged_of, apply, unstage, stage, s
 use Rattle.raid_steps.specs.Programs as programs
 use Rattle.raid_steps.specs.Site as rows
 use Rattle.raid_asks.specs.Own.{Ascend}
-
--- the transaction whose Begin the message is
-abbrev pub begun_by : Message → List Txn
-begun_by (letters.Begin t) = t ∷ []
-begun_by other = []
+use Rattle.raid_asks.specs.Way.{begun_by}
 
 -- the transactions whose Begins the sequencer is told
 abbrev pub told : List Out → List Txn

@@ -18,11 +18,12 @@ use Rattle.raid_sessions.proofs.Lists.{all_append, all_weaken}
 use Rattle.raid_sessions.proofs.Mail.{letter_of, letters_to}
 use Rattle.raid_sessions.proofs.Site.{Stays, hears_server}
 use Rattle.raid_asks.specs.Own.{Ascend}
-use Rattle.raid_asks.proofs.Cares.{begins, begins_append, begins_told, none_later, here, IsOurs, AreOurs, Stage, stopped, asleep, fresh, awake, Cares, Still, still_heard, still_told, Runs, runs_turn, runs_heard, runs_told}
+use Rattle.raid_asks.proofs.Cares.{begins_append, begins_told, none_later, here, IsOurs, AreOurs, Stage, stopped, asleep, fresh, awake, Cares, Still, still_heard, still_told, Runs, runs_turn, runs_heard, runs_told}
 use Rattle.raid_asks.proofs.Least.{Ours, known_txn}
 use Rattle.raid_asks.proofs.Line.{Line, CountsAt, FineNow, CountsNow, next_begins}
 use Rattle.raid_asks.proofs.Notes.{Welcoming, WelcomeOk}
-use Rattle.raid_asks.proofs.Programs.{begun_by, told, Kept, starts, asks_commits}
+use Rattle.raid_asks.proofs.Programs.{told, Kept, starts, asks_commits}
+use Rattle.raid_asks.specs.Way.{begun_by, begins_of as begins}
 
 module _ (w : Workload) (k : ℕ) (p : List Noted) where
   -- what is told is of the site's own

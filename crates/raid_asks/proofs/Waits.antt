@@ -13,7 +13,7 @@ use Rattle.raid_legal.specs.Seen.{vector, is_up}
 use Rattle.raid_message.specs.declared.letter.Message.{Message}
 use Rattle.raid_message.specs.declared.letter.Message.TheVariants as letters
 use Rattle.raid_message.specs.declared.letter.Letter.{Letter}
-use Rattle.raid_steps.specs.State.{Out, Turn, Sequencer, SiteState, opened}
+use Rattle.raid_steps.specs.State.{Out, Turn, SiteState, opened}
 use Rattle.raid_steps.specs.Fits.{knows_site}
 use Rattle.raid_steps.specs.Sequencer as seq
 use Rattle.raid_steps.specs.Sequencer.{is_hello, hear_sequencer}
@@ -28,12 +28,13 @@ use Rattle.raid_sessions.proofs.Lists.{get_below, get_known, get_set, get_other,
 use Rattle.raid_sessions.proofs.Mail.{same_or_not, letters_to, moved, moved_taken, moved_sent, moved_other}
 use Rattle.raid_sessions.proofs.Sessions.{Chain, chain_le, said}
 use Rattle.raid_asks.proofs.AtSequencer.{own_letter, silent}
-use Rattle.raid_asks.proofs.Cares.{begins, IsOurs, AreOurs, Stage, stopped, asleep, fresh, awake, Cares}
+use Rattle.raid_asks.proofs.Cares.{IsOurs, AreOurs, Stage, stopped, asleep, fresh, awake, Cares}
 use Rattle.raid_asks.proofs.Entries.{IsQuiet}
 use Rattle.raid_asks.proofs.Homes.{Homes}
 use Rattle.raid_asks.proofs.Least.{Ours}
 use Rattle.raid_asks.proofs.SiteStep.{halts, restarts, peers, notes_taken, same_cares}
 use Rattle.raid_asks.proofs.Turns.{IsHello}
+use Rattle.raid_asks.specs.Way.{begins_of as begins}
 
 module _ (w : Workload) where
   abbrev pub Waits : Servers → List (List (List Letter)) → Type 0
@@ -76,18 +77,12 @@ module _ (w : Workload) where
         (waits k state at)
 
     module _ (front : link links 1 from ≡ letter ∷ rest) where
-      turn : Turn Sequencer
-      turn = hear_sequencer w s.sequencer from letter
-
       pub sequencer_waits : Waits (record s { sequencer = (hear_sequencer w s.sequencer from letter).state }) (moved links 1 from 0 clock rest (hear_sequencer w s.sequencer from letter).outs)
       sequencer_waits k state at =
           subst (λ ns. Cares w k (noted (hear_sequencer w s.sequencer from letter).state.history) state (link (moved links 1 from 0 clock rest (hear_sequencer w s.sequencer from letter).outs) 1 (k + 2)) ns)
           (sym (moved_sent (w.sites + 2) links 1 from 0 clock rest (hear_sequencer w s.sequencer from letter).outs holds.square (omega arith) (k + 2) (room k state at) (λ e. omega (arith, e))))
           (go (same_or_not from (k + 2)))
         where
-          outs : List Out
-          outs = (hear_sequencer w s.sequencer from letter).outs
-
           mine : Cares w k (noted s.sequencer.history) state (link links 1 (k + 2)) (link links (k + 2) 1)
           mine = waits k state at
 
@@ -131,7 +126,7 @@ module _ (w : Workload) where
               (record {
                 sent = was.sent.1;
                 known = was.known.1;
-                stage = own_letter w k from clock letter s.sequencer state [] [] (link links (k + 2) 1) (below s links holds k state at) holds.placed holds.quiet opens
+                stage = own_letter w k from clock letter s.sequencer state (link links (k + 2) 1) (below s links holds k state at) holds.placed holds.quiet opens
                     (is_there (record s { sequencer = (hear_sequencer w s.sequencer from letter).state }) (moved links 1 from 0 clock rest (hear_sequencer w s.sequencer from letter).outs) after_holds k state at)
                     (session_most w s.sequencer.history (site (k + 1)) holds.ledger (known_site s links holds k state at)) (holds.within k (below s links holds k state at)) (present s links holds k state at) (some_session s links holds k state at) of rest was.stage;
               })
@@ -141,7 +136,7 @@ module _ (w : Workload) where
               (record {
                 sent = mine.sent;
                 known = mine.known;
-                stage = silent w k from clock letter s.sequencer state [] [] (link links (k + 2) 1) (below s links holds k state at) holds.placed holds.quiet opens
+                stage = silent w k from clock letter s.sequencer state (link links (k + 2) 1) (below s links holds k state at) holds.placed holds.quiet opens
                     (is_there (record s { sequencer = (hear_sequencer w s.sequencer from letter).state }) (moved links 1 from 0 clock rest (hear_sequencer w s.sequencer from letter).outs) after_holds k state at)
                     (session_most w s.sequencer.history (site (k + 1)) holds.ledger (known_site s links holds k state at)) (holds.within k (below s links holds k state at)) (present s links holds k state at) (some_session s links holds k state at) (begins state.session (link links 1 (k + 2))) (quiet_or from refl other) mine.stage;
               })
@@ -167,9 +162,6 @@ module _ (w : Workload) where
       by_sender : (f : ℕ) → from ≡ f → Cares w k (noted s.sequencer.history) (rows.hear_site w state f letter).state (asked (rows.hear_site w state f letter)) (if f == 1 then rest else link links (k + 2) 1)
       by_sender f of = go state.up refl f of
         where
-          args_place : state.site ≡ site (k + 1)
-          args_place = (homes k state at).place
-
           restop : (u : Bool) → u ≡ false → (left : List Letter) → Stage w k (noted s.sequencer.history) u state.session state.running state.next (begins state.session (link links 1 (k + 2))) (link links (k + 2) 1) → Stage w k (noted s.sequencer.history) u state.session state.running state.next (begins state.session (link links 1 (k + 2))) left
           restop u down left (stopped d r n) = stopped d r n
           restop u down left (asleep v l r n b) = asleep v l r n b
