@@ -54,7 +54,7 @@ module _ (w : Workload) (state : World) (holds : Reached w state) (k : ℕ) (s :
   ended_up up = ap (λ u. ended u s.session) up
 
   -- a site that is up in the last session told is up in the vector
-  told_up : s.up ≡ true → last_told state k ≡ s.session → told_session w state k ≡ s.session
+  pub told_up : s.up ≡ true → last_told state k ≡ s.session → told_session w state k ≡ s.session
   told_up up same =
       elim account.gone [
         | inl q ↦ absurd (let over = mine.fallen q.0 in let first = account.first in let e = ended_up up in omega (arith, over, first, e, same))

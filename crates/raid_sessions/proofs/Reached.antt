@@ -59,14 +59,14 @@ module _ (n : ℕ) (links : List (List (List Letter))) (server from : ℕ) (l : 
   row_short : length (slice_index_or links server []) ≤ n
   row_short = all_or (λ (row : List (List Letter)). length row ≤ n) links server [] (narrow n links square.wide) (omega arith)
 
-  from_below : from < n
+  pub from_below : from < n
   from_below = go (nat_lt from n) refl
     where
       go : (b : Bool) → nat_lt from n ≡ b → from < n
       go true q = lt_is from n q
       go false q = (let beyond = lt_or from n q in let short = row_short in absurd (no_letter l rest (sym (past (slice_index_or links server []) from [] (omega (arith, beyond, short))) ∙ front)))
 
-  server_below : server < n
+  pub server_below : server < n
   server_below = go (nat_lt server n) refl
     where
       go : (b : Bool) → nat_lt server n ≡ b → server < n
@@ -101,7 +101,7 @@ module _ (w : Workload) where
   hear_reached s links (suc (suc k)) from clock l rest front holds =
       at_reached s links k from clock l rest (from_below (w.sites + 2) links (suc (suc k)) from l rest holds.square front) front holds (slice_get s.sites k) refl (server_below (w.sites + 2) links (suc (suc k)) from l rest holds.square front)
 
-  front_reached : (s : World) (server from : ℕ) (queue : List Letter) → link s.links server from ≡ queue → Reached s → Reached (take_front w s server from queue)
+  pub front_reached : (s : World) (server from : ℕ) (queue : List Letter) → link s.links server from ≡ queue → Reached s → Reached (take_front w s server from queue)
   front_reached s server from [] q r = r
   front_reached s server from (l ∷ rest) q r = hear_reached s.servers s.links server from (1 + max (slice_index s.clocks server) l.clock) l rest q r
 
@@ -211,7 +211,7 @@ module _ (w : Workload) where
   open_vectors : (k : ℕ) (state : SiteState) → slice_get (map (first_site w) (sites w)) k ≡ Some state → ArePast w (last_of []) state.vector
   open_vectors k state q r known = (let none = ap (λ v. session v r) (first_vector (sites w) k state q) in let zeros = zero_at w.sites (r.0 - 1) in omega (arith, none, zeros))
 
-  open_reached : Reached (open_world w)
+  pub open_reached : Reached (open_world w)
   open_reached = record {
     square = open_square;
     long = map_long (first_site w) (sites w) ∙ sites_long;

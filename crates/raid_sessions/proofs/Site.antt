@@ -176,7 +176,7 @@ module _ (w : Workload) (u : Bool) (m : ℕ) where
   refuses state from letter other k = k
 
   -- an up site that hears another server than the monitor
-  hears_server : (state : SiteState) (from : ℕ) (letter : Letter) → Kept (opened state) → Kept (rows.hear_up w state (suc from) letter)
+  pub hears_server : (state : SiteState) (from : ℕ) (letter : Letter) → Kept (opened state) → Kept (rows.hear_up w state (suc from) letter)
   hears_server state zero letter k =
       either (letter.to == state.session) (rows.hear_sequencer w state letter) (opened state)
       (hears_if (is_of_sequencer w letter.message && rows.fits_here w state letter.message) state (rows.sequencer_row w (opened state) letter.message) k (sequencer_rows (opened state) letter.message k)) k

@@ -1,0 +1,17 @@
+pub mod AtSequencer
+pub mod Begins
+pub mod Begun
+pub mod Cares
+pub mod Entries
+pub mod Facts
+pub mod Homes
+pub mod Least
+pub mod Line
+pub mod Notes
+pub mod Programs
+pub mod Reached
+pub mod Sends
+pub mod SiteStep
+pub mod Steps
+pub mod Turns
+pub mod Waits
