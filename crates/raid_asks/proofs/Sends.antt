@@ -1,48 +1,23 @@
 -- What the sequencer's entries send is for sites, each in its session.
-use Rattle.std.proofs.Common.{◌≡◌, ℕ, zero, suc, ◌+◌, ◌-◌, ◌<◌, ◌≤◌, ◌==◌, nat_lt, nat_le, Bool, true, false, not, ◌&&◌, List, [], ◌∷◌, ◌++◌, length, map, Option, Some, None, if◌then◌else◌, arith, sym, subst, ap, ◌∙◌, refl}
-use Rattle.std.specs.Prelude.{⊤, max, filter, flat_map, slice_index, slice_set}
+use Rattle.std.proofs.Common.{◌≡◌, ℕ, Bool, true, false, not, ◌&&◌, List, [], ◌∷◌, length, map, if◌then◌else◌, refl}
+use Rattle.std.specs.Prelude.{filter, flat_map}
 use Rattle.std.specs.List.{AllByRecursion}
-use Rattle.std.specs.Option.{option_map_or}
-use Rattle.std.proofs.lemmas.Bool.{and_parts, and_from, eqb-true, true≢false}
 use Rattle.raid_base.specs.declared.names.Txn.{Txn}
-use Rattle.raid_base.specs.declared.names.Item.{Item}
 use Rattle.raid_base.specs.declared.names.Site.{Site}
-use Rattle.raid_base.specs.declared.request.Request.{Request}
-use Rattle.raid_base.specs.declared.entry.Act.TheVariants as acts
-use Rattle.raid_base.specs.declared.entry.Cause.{Cause}
-use Rattle.raid_base.specs.declared.entry.Cause.TheVariants as causes
 use Rattle.raid_base.specs.declared.entry.Entry.{Entry}
-use Rattle.raid_base.specs.declared.entry.Entry.TheVariants.{Begin, Read, Wait, Commit, Abort, Ack, SwitchOn, SwitchEnd, Down, Up, Clear}
+use Rattle.raid_base.specs.declared.entry.Entry.TheVariants.{Read, Commit, Abort, Down, Up}
 use Rattle.raid_base.specs.declared.entry.Noted.{Noted}
-use Rattle.raid_base.specs.declared.verdict.Verdict.{Verdict}
-use Rattle.raid_base.specs.declared.verdict.Verdict.TheVariants as verdicts
 use Rattle.raid_base.specs.Names.{is_site, has_site}
-use Rattle.raid_base.specs.Sites.{session, site}
+use Rattle.raid_base.specs.Sites.{session}
 use Rattle.raid_workload.specs.declared.workload.Workload.{Workload}
 use Rattle.raid_workload.specs.Parts.{sites, home}
-use Rattle.raid_rules.specs.History.{noted, ends, stamp, is_waiting, version}
-use Rattle.raid_rules.specs.Sessions.{source_for, owes, last_session}
-use Rattle.raid_rules.specs.Verdicts.{reading, writing}
-use Rattle.raid_legal.specs.Seen.{vector, is_up, is_locked, sources}
-use Rattle.raid_legal.specs.InForce.{verdict}
-use Rattle.raid_legal.specs.Answers.{served, answer_read, answer_commit, answered, decided, closes_waits, site_refusal}
-use Rattle.raid_legal.specs.Forced.{forced}
-use Rattle.raid_legal.specs.Legal.{is_free, may_begin}
-use Rattle.raid_legal.proofs.Left.{Compels, forced_compels}
+use Rattle.raid_legal.specs.Seen.{vector, is_up}
 use Rattle.raid_message.specs.declared.letter.Message.{Message}
 use Rattle.raid_message.specs.declared.letter.Message.TheVariants as letters
-use Rattle.raid_steps.specs.State.{Out, Turn, Sequencer, Copying, opened, to_site}
-use Rattle.raid_steps.specs.Fits.{knows_site}
+use Rattle.raid_steps.specs.State.{Out, to_site}
 use Rattle.raid_steps.specs.Table.{is_count}
 use Rattle.raid_steps.specs.Sequencer as rows
-use Rattle.raid_steps.specs.Sequencer.{so_far, place, place_if, settle_from, settle, finish}
-use Rattle.raid_placed.proofs.Heard.{Fine, leave_fine, sent_placed, settled_still}
-use Rattle.raid_placed.proofs.Settled.{settle_settles}
-use Rattle.raid_steps.proofs.Parts.{number_known}
-use Rattle.raid_sessions.specs.Due.{IsDue}
-use Rattle.raid_sessions.proofs.Events.{due_of, due_grows}
-use Rattle.raid_sessions.proofs.Ledger.{Ledger, is_still, still_push, down_push, up_push, up_last, up_risen, session_still, session_down, session_up, session_most, last_still, last_down, last_up, ends_grow}
-use Rattle.raid_sessions.proofs.Lists.{at_most, same_self, all_append, all_weaken}
+use Rattle.raid_sessions.proofs.Lists.{all_append}
 
 module _ (w : Workload) where
   -- a fact of every such message holds of all that an entry sends
