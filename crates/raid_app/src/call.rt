@@ -38,7 +38,7 @@ pub struct Ended {
 /// The report of such a run is upheld. Each entry of its history is the one that the rules force there, or else one that they let come, and a
 /// read or a commit has their answer: so each abort has the cause that they give, and that of a program which ends itself is how it ends on
 /// the reads that are told. Each commit is just what its program makes of the reads that it tells. Each switch aborted just those of its list;
-/// each action while two controllers were in force was granted by both; no read was granted at a copy that had missed a write; each stop and
+/// each action while two controllers were in force was granted by both; no read was granted at a copy that the history has locked; each stop and
 /// return was due; and the order lists each committed transaction once and no other, with each conflict leading onward. That the values read
 /// are those that the programs, run alone in that order, find there is no part of it.
 pub fn run<S: Source, K: Sink>(

@@ -17,7 +17,7 @@ use Rattle.raid_steps.specs.State.{Out, Turn, Running, SiteState}
 use Rattle.raid_steps.specs.Site as rows
 use Rattle.raid_sessions.proofs.Lists.{is_same}
 use Rattle.raid_sessions.proofs.Mail.{letter_of, letters_to}
-use Rattle.raid_asks.specs.Own.{Ascend}
+use Rattle.raid_moves.specs.Moves.{Ascend}
 use Rattle.raid_asks.proofs.Least.{Ours}
 use Rattle.raid_asks.proofs.Line.{FineAt, NoteOk, CountsAt, FineNow, CountsNow, next_begins, begins_again}
 use Rattle.raid_asks.proofs.Notes.{IsPlain, Welcoming}
@@ -101,16 +101,16 @@ module _ (w : Workload) (k : ℕ) where
       unfolding Idle None
       still_keeps r n = record { site = place; fine = subst (λ rs. AllByRecursion (λ (r : Running). Idle [] r.txn) rs) (sym r) tt; counts = (n, refl); ascend = ascend }
 
-      pub still_heard : state.running ≡ [] → state.next ≡ 0 → (letter : Letter) → ((letter.to == state.session) ≡ true → IsPlain letter.message) → Still (rows.hear_up w state 1 letter)
+      pub still_heard : state.up ≡ true → state.running ≡ [] → state.next ≡ 0 → (letter : Letter) → ((letter.to == state.session) ≡ true → IsPlain letter.message) → Still (rows.hear_up w state 1 letter)
       unfolding Idle None
-      still_heard r n letter plain =
+      still_heard up r n letter plain =
           still_turn (rows.hear_up w state 1 letter)
-          (hears_sequencer w here Idle None still_next state (still_keeps r n) letter
+          (hears_sequencer w here Idle None still_next state (still_keeps r n) up letter
           (λ to v i e. absurd (subst IsPlain e (plain to)))
           (λ to t e. absurd (subst IsPlain e (plain to))))
 
-      pub still_told : state.running ≡ [] → state.next ≡ 0 → (i : ℕ) (letter : Letter) → Still (rows.hear_up w state (suc (suc i)) letter)
-      still_told r n i letter = still_turn (rows.hear_up w state (suc (suc i)) letter) (hears_site w here Idle None still_next state (still_keeps r n) i letter)
+      pub still_told : state.up ≡ true → state.running ≡ [] → state.next ≡ 0 → (i : ℕ) (letter : Letter) → Still (rows.hear_up w state (suc (suc i)) letter)
+      still_told up r n i letter = still_turn (rows.hear_up w state (suc (suc i)) letter) (hears_site w here Idle None still_next state (still_keeps r n) up i letter)
 
       -- one that was welcomed
       module _ (m : ℕ) (mine : state.session ≡ m) (bs : List Txn) (rest : List Letter) where
@@ -126,12 +126,12 @@ module _ (w : Workload) (k : ℕ) where
         no_welcome : (message : Message) (ls : List Letter) (v : List ℕ) (n : ℕ) → message ≡ letters.Welcome v n → NoteOk w here p m bs message ls → ⊥
         no_welcome message ls v n e ok = subst (λ x. NoteOk w here p m bs x ls) e ok
 
-        pub runs_heard : AllByRecursion (λ (r : Running). FineAt w here p bs r.txn) state.running → CountsAt w here p m rest bs state.next → (letter : Letter) → ((letter.to == m) ≡ true → NoteOk w here p m bs letter.message rest) → Runs (rows.hear_up w state 1 letter)
-        runs_heard f c letter ok =
+        pub runs_heard : state.up ≡ true → AllByRecursion (λ (r : Running). FineAt w here p bs r.txn) state.running → CountsAt w here p m rest bs state.next → (letter : Letter) → ((letter.to == m) ≡ true → NoteOk w here p m bs letter.message rest) → Runs (rows.hear_up w state 1 letter)
+        runs_heard up f c letter ok =
             runs_turn (rows.hear_up w state 1 letter)
-            (hears_sequencer w here (FineNow w here p m rest bs) (CountsNow w here p m rest bs) (next_begins w here p m rest bs) state (runs_keeps f c) letter
+            (hears_sequencer w here (FineNow w here p m rest bs) (CountsNow w here p m rest bs) (next_begins w here p m rest bs) state (runs_keeps f c) up letter
             (λ to v n e. absurd (no_welcome letter.message rest v n e (ok (subst (λ n. (letter.to == n) ≡ true) mine to))))
             (λ to t e. begins_again w here p m rest bs t (subst (λ x. NoteOk w here p m bs x rest) e (ok (subst (λ n. (letter.to == n) ≡ true) mine to)))))
 
-        pub runs_told : AllByRecursion (λ (r : Running). FineAt w here p bs r.txn) state.running → CountsAt w here p m rest bs state.next → (i : ℕ) (letter : Letter) → Runs (rows.hear_up w state (suc (suc i)) letter)
-        runs_told f c i letter = runs_turn (rows.hear_up w state (suc (suc i)) letter) (hears_site w here (FineNow w here p m rest bs) (CountsNow w here p m rest bs) (next_begins w here p m rest bs) state (runs_keeps f c) i letter)
+        pub runs_told : state.up ≡ true → AllByRecursion (λ (r : Running). FineAt w here p bs r.txn) state.running → CountsAt w here p m rest bs state.next → (i : ℕ) (letter : Letter) → Runs (rows.hear_up w state (suc (suc i)) letter)
+        runs_told up f c i letter = runs_turn (rows.hear_up w state (suc (suc i)) letter) (hears_site w here (FineNow w here p m rest bs) (CountsNow w here p m rest bs) (next_begins w here p m rest bs) state (runs_keeps f c) up i letter)

@@ -27,7 +27,7 @@ use Rattle.raid_steps.specs.World.{Servers, link}
 use Rattle.raid_sessions.proofs.Holds.{Holds}
 use Rattle.raid_sessions.proofs.Lists.{get_below, get_set, get_other, some_is, all_append}
 use Rattle.raid_sessions.proofs.Mail.{same_or_not, letter_of, letters_to, moved, moved_taken, moved_sent, moved_other}
-use Rattle.raid_asks.specs.Own.{Ascend}
+use Rattle.raid_moves.specs.Moves.{Ascend}
 use Rattle.raid_asks.proofs.Least.{txn, least, txn_known, Least, Ours, IsNext, following_is, ours_next}
 use Rattle.raid_asks.proofs.Programs.{Keeps, Kept, BeginsNext, BeginsAgain, hears_sequencer, hears_site}
 use Rattle.raid_asks.proofs.Steps.{IsOther, AreOther, Steps, done, placed, passes, hear_steps}
@@ -108,16 +108,16 @@ module _ (w : Workload) where
 
       -- what it takes from the sequencer's link is as it was told
       pub site_step : (from : ℕ) (letter : Letter) (left : List Letter) → AreTold here left → (from ≡ 1 → IsTold here letter.message) → Housed k (rows.hear_site w state from letter).state left
-      site_step from letter left a told = go state.up from told
+      site_step from letter left a told = go state.up refl from told
         where
-          go : (u : Bool) (f : ℕ) → (f ≡ 1 → IsTold here letter.message) → Housed k (if u then rows.hear_up w state f letter else rows.hear_down state f letter).state left
-          go true zero q = stopped left a letter.message
-          go true (suc zero) q =
+          go : (u : Bool) → state.up ≡ u → (f : ℕ) → (f ≡ 1 → IsTold here letter.message) → Housed k (if u then rows.hear_up w state f letter else rows.hear_down state f letter).state left
+          go true up zero q = stopped left a letter.message
+          go true up (suc zero) q =
               from_kept left a (rows.hear_up w state 1 letter)
-              (hears_sequencer w here Fine Counts next_begins state keeps letter (λ to v n e. told_next letter.message (q refl) v n e) (λ to t e. begins_again t (told_more letter.message (q refl) t e)))
-          go true (suc (suc i)) q = from_kept left a (rows.hear_up w state (suc (suc i)) letter) (hears_site w here Fine Counts next_begins state keeps i letter)
-          go false zero q = returned left a letter.message
-          go false (suc i) q = housed left a
+              (hears_sequencer w here Fine Counts next_begins state keeps up letter (λ to v n e. told_next letter.message (q refl) v n e) (λ to t e. begins_again t (told_more letter.message (q refl) t e)))
+          go true up (suc (suc i)) q = from_kept left a (rows.hear_up w state (suc (suc i)) letter) (hears_site w here Fine Counts next_begins state keeps up i letter)
+          go false up zero q = returned left a letter.message
+          go false up (suc i) q = housed left a
 
   -- what the sequencer sends a site
   module _ (k : ℕ) where

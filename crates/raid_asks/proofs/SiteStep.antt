@@ -17,12 +17,14 @@ use Rattle.raid_steps.specs.Site as rows
 use Rattle.raid_sessions.proofs.Lists.{all_append, all_weaken}
 use Rattle.raid_sessions.proofs.Mail.{letter_of, letters_to}
 use Rattle.raid_sessions.proofs.Site.{Stays, hears_server}
-use Rattle.raid_asks.specs.Own.{Ascend}
+use Rattle.raid_moves.specs.Moves.{Ascend}
 use Rattle.raid_asks.proofs.Cares.{begins_append, begins_told, none_later, here, IsOurs, AreOurs, Stage, stopped, asleep, fresh, awake, Cares, Still, still_heard, still_told, Runs, runs_turn, runs_heard, runs_told}
 use Rattle.raid_asks.proofs.Least.{Ours, known_txn}
 use Rattle.raid_asks.proofs.Line.{Line, CountsAt, FineNow, CountsNow, next_begins}
 use Rattle.raid_asks.proofs.Notes.{Welcoming, WelcomeOk}
-use Rattle.raid_asks.proofs.Programs.{told, Kept, starts, asks_commits}
+use Rattle.raid_moves.specs.Moves.{Hears, Tells, Moves, at_welcome}
+use Rattle.raid_moves.proofs.Steps.{on, ascend_moves, starts, asks_commits}
+use Rattle.raid_asks.proofs.Programs.{told, Kept, moves_keep}
 use Rattle.raid_asks.specs.Way.{begun_by, begins_of as begins}
 
 module _ (w : Workload) (k : ℕ) (p : List Noted) where
@@ -88,21 +90,17 @@ module _ (w : Workload) (k : ℕ) (p : List Noted) where
           (subst (λ n. Stage w k p turn.state.up n turn.state.running turn.state.next (begins state.session asks ++ told turn.outs) notes) (sym q) (awake up last runs.0 runs.1)))
 
     -- the Welcome
-    welcomed : (m : ℕ) (mine : state.session ≡ m) (letter : Letter) (rest : List Letter) → state.running ≡ [] → (letter.to == state.session) ≡ true → WelcomeOk w (here w k) m p letter.message rest → Runs w k p state place ascend m mine [] rest (rows.hear_up w state 1 letter)
-    welcomed m mine letter rest none to ok = subst (λ b. Runs w k p state place ascend m mine [] rest (if b then rows.hear_sequencer w state letter else opened state)) (sym to) (go letter.message ok)
+    welcomed : state.up ≡ true → (m : ℕ) (mine : state.session ≡ m) (letter : Letter) (rest : List Letter) → state.running ≡ [] → (letter.to == state.session) ≡ true → WelcomeOk w (here w k) m p letter.message rest → Runs w k p state place ascend m mine [] rest (rows.hear_up w state 1 letter)
+    welcomed up m mine letter rest none to ok = subst (λ b. Runs w k p state place ascend m mine [] rest (if b then rows.hear_sequencer w state letter else opened state)) (sym to) (go letter.message refl ok)
       where
-        go : (message : Message) → WelcomeOk w (here w k) m p message rest → Runs w k p state place ascend m mine [] rest (rows.hear_if (is_of_sequencer w message && rows.fits_here w state message) state (rows.sequencer_row w (opened state) message))
-        go (letters.Welcome v n) ok = subst (λ b. Runs w k p state place ascend m mine [] rest (rows.hear_if b state (rows.sequencer_row w (opened state) (letters.Welcome v n)))) (sym fits) (runs_turn w k p state place ascend m mine [] rest (programs.ask_commits begun) (kept.0, asks_commits w (here w k) (FineNow w (here w k) p m rest []) (CountsNow w (here w k) p m rest []) kept.0 begun kept.1))
+        go : (message : Message) → letter.message ≡ message → WelcomeOk w (here w k) m p message rest → Runs w k p state place ascend m mine [] rest (rows.hear_if (is_of_sequencer w message && rows.fits_here w state message) state (rows.sequencer_row w (opened state) message))
+        go (letters.Welcome v n) is ok = subst (λ b. Runs w k p state place ascend m mine [] rest (rows.hear_if b state (rows.sequencer_row w (opened state) (letters.Welcome v n)))) (sym fits) (runs_turn w k p state place ascend m mine [] rest (programs.ask_commits begun) kept)
           where
             opening : Turn SiteState
             opening = with_state (opened state) (record state { vector = v; next = n })
 
             begun : Turn SiteState
             begun = programs.start w (with_state (opened state) (record state { vector = v; next = n }))
-
-            kept : Kept w (here w k) (FineNow w (here w k) p m rest []) (CountsNow w (here w k) p m rest []) (programs.start w (with_state (opened state) (record state { vector = v; next = n })))
-            kept = starts w (here w k) (FineNow w (here w k) p m rest []) (CountsNow w (here w k) p m rest []) (next_begins w (here w k) p m rest []) (with_state (opened state) (record state { vector = v; next = n }))
-                ([], (refl, record { site = place; fine = subst (λ rs. AllByRecursion (λ (r : Running). FineNow w (here w k) p m rest [] [] r.txn) rs) (sym none) tt; counts = record { line = tt; counts = ok.1.0; notes = ok.1.1 }; ascend = ascend }))
 
             small : (n most : ℕ) → n < 1 + most → nat_le n most ≡ true
             small n most q = grind (arith, q)
@@ -118,7 +116,20 @@ module _ (w : Workload) (k : ℕ) (p : List Noted) where
 
             fits : (is_of_sequencer w (letters.Welcome v n) && rows.fits_here w state (letters.Welcome v n)) ≡ true
             fits = and_from (is_of_sequencer w (letters.Welcome v n)) (length state.running == 0) (and_from (knows_vector w v) (nat_le n (length w.programs * (w.restarts + 1))) ok.0 few) (ap (λ (rs : List Running). length rs == 0) none)
-        go other ok = absurd ok
+
+            heard : Hears state letter
+            heard = record { up = up; meant = to }
+
+            says : Tells w state 1 letter (letters.Welcome v n)
+            says = record { heard = heard; by = refl; is = is; fits = fits }
+
+            first : Moves w state 1 letter opening begun
+            first = starts w state 1 letter (at_welcome v n says) opening
+
+            kept : Kept w (here w k) (FineNow w (here w k) p m rest []) (CountsNow w (here w k) p m rest []) (programs.ask_commits begun)
+            kept = moves_keep w (here w k) (FineNow w (here w k) p m rest []) (CountsNow w (here w k) p m rest []) state 1 letter (next_begins w (here w k) p m rest []) (on w state 1 letter first (asks_commits w state 1 letter heard begun (ascend_moves w state 1 letter ascend first))) ascend
+                ([], (refl, record { site = place; fine = subst (λ rs. AllByRecursion (λ (r : Running). FineNow w (here w k) p m rest [] [] r.txn) rs) (sym none) tt; counts = record { line = tt; counts = ok.1.0; notes = ok.1.1 }; ascend = ascend }))
+        go other is ok = absurd ok
 
     -- the whole step
     module _ (notes : List Letter) (c : Cares w k p state asks notes) (within : AllByRecursion (λ (l : Letter). l.to ≤ last_session p (here w k)) notes) (follows : last_session p (here w k) ≤ state.session) where
@@ -171,9 +182,9 @@ module _ (w : Workload) (k : ℕ) (p : List Noted) where
 
           go : Stage w k p state.up state.session state.running state.next (begins state.session asks) notes → Goal (rows.hear_up w state (suc (suc i)) letter) notes
           go (stopped d r n) = absurd (true≢false (sym up ∙ d))
-          go (asleep u l r n b) = (let s = still_told w k p state place ascend r n i letter in let m = (up_as (suc i) letter).1 in still_cares c.sent c.known notes (rows.hear_up w state (suc (suc i)) letter) m b s (λ none. asleep ((up_as (suc i) letter).0 ∙ up) (subst (λ x. last_session p (here w k) < x) (sym m) l) s.0 s.1.0 none))
-          go (fresh u l r n b q) = (let s = still_told w k p state place ascend r n i letter in let m = (up_as (suc i) letter).1 in still_cares c.sent c.known notes (rows.hear_up w state (suc (suc i)) letter) m b s (λ none. fresh ((up_as (suc i) letter).0 ∙ up) (l ∙ sym m) s.0 s.1.0 none (subst (λ x. Welcoming w (here w k) x p notes) (sym m) q)))
-          go (awake u l f q) = runs_cares c.sent c.known notes (rows.hear_up w state (suc (suc i)) letter) (up_as (suc i) letter).1 ((up_as (suc i) letter).0 ∙ up) l (runs_told w k p state place ascend state.session refl (begins state.session asks) notes f q i letter)
+          go (asleep u l r n b) = (let s = still_told w k p state place ascend u r n i letter in let m = (up_as (suc i) letter).1 in still_cares c.sent c.known notes (rows.hear_up w state (suc (suc i)) letter) m b s (λ none. asleep ((up_as (suc i) letter).0 ∙ up) (subst (λ x. last_session p (here w k) < x) (sym m) l) s.0 s.1.0 none))
+          go (fresh u l r n b q) = (let s = still_told w k p state place ascend u r n i letter in let m = (up_as (suc i) letter).1 in still_cares c.sent c.known notes (rows.hear_up w state (suc (suc i)) letter) m b s (λ none. fresh ((up_as (suc i) letter).0 ∙ up) (l ∙ sym m) s.0 s.1.0 none (subst (λ x. Welcoming w (here w k) x p notes) (sym m) q)))
+          go (awake u l f q) = runs_cares c.sent c.known notes (rows.hear_up w state (suc (suc i)) letter) (up_as (suc i) letter).1 ((up_as (suc i) letter).0 ∙ up) l (runs_told w k p state place ascend state.session refl (begins state.session asks) notes u f q i letter)
 
       pub notes_taken : state.up ≡ true → (letter : Letter) (rest : List Letter) → notes ≡ letter ∷ rest → Goal (rows.hear_up w state 1 letter) rest
       unfolding after
@@ -184,12 +195,12 @@ module _ (w : Workload) (k : ℕ) (p : List Noted) where
 
           go : Stage w k p state.up state.session state.running state.next (begins state.session asks) notes → Goal (rows.hear_up w state 1 letter) rest
           go (stopped d r n) = absurd (true≢false (sym up ∙ d))
-          go (asleep u l r n b) = (let s = still_heard w k p state place ascend r n letter (λ to. absurd (late l to)) in let m = (up_as 0 letter).1 in still_cares c.sent c.known rest (rows.hear_up w state 1 letter) m b s (λ none. asleep ((up_as 0 letter).0 ∙ up) (subst (λ x. last_session p (here w k) < x) (sym m) l) s.0 s.1.0 none))
+          go (asleep u l r n b) = (let s = still_heard w k p state place ascend u r n letter (λ to. absurd (late l to)) in let m = (up_as 0 letter).1 in still_cares c.sent c.known rest (rows.hear_up w state 1 letter) m b s (λ none. asleep ((up_as 0 letter).0 ∙ up) (subst (λ x. last_session p (here w k) < x) (sym m) l) s.0 s.1.0 none))
           go (fresh u l r n b q) = first (subst (Welcoming w (here w k) state.session p) front q)
             where
               first : Welcoming w (here w k) state.session p (letter ∷ rest) → Goal (rows.hear_up w state 1 letter) rest
-              first (inl ok) = runs_cares c.sent c.known rest (rows.hear_up w state 1 letter) (up_as 0 letter).1 ((up_as 0 letter).0 ∙ up) l (subst (λ bs. Runs w k p state place ascend state.session refl bs rest (rows.hear_up w state 1 letter)) (sym b) (welcomed state.session refl letter rest r ok.0 ok.1))
-              first (inr later) = (let s = still_heard w k p state place ascend r n letter later.0 in let m = (up_as 0 letter).1 in still_cares c.sent c.known rest (rows.hear_up w state 1 letter) m b s (λ none. fresh ((up_as 0 letter).0 ∙ up) (l ∙ sym m) s.0 s.1.0 none (subst (λ x. Welcoming w (here w k) x p rest) (sym m) later.1)))
+              first (inl ok) = runs_cares c.sent c.known rest (rows.hear_up w state 1 letter) (up_as 0 letter).1 ((up_as 0 letter).0 ∙ up) l (subst (λ bs. Runs w k p state place ascend state.session refl bs rest (rows.hear_up w state 1 letter)) (sym b) (welcomed u state.session refl letter rest r ok.0 ok.1))
+              first (inr later) = (let s = still_heard w k p state place ascend u r n letter later.0 in let m = (up_as 0 letter).1 in still_cares c.sent c.known rest (rows.hear_up w state 1 letter) m b s (λ none. fresh ((up_as 0 letter).0 ∙ up) (l ∙ sym m) s.0 s.1.0 none (subst (λ x. Welcoming w (here w k) x p rest) (sym m) later.1)))
           go (awake u l f q) = (let q2 = subst (λ ns. CountsAt w (here w k) p state.session ns (begins state.session asks) state.next) front q in
               runs_cares c.sent c.known rest (rows.hear_up w state 1 letter) (up_as 0 letter).1 ((up_as 0 letter).0 ∙ up) l
-              (runs_heard w k p state place ascend state.session refl (begins state.session asks) rest f (record { line = q2.line; counts = q2.counts; notes = q2.notes.1 }) letter q2.notes.0))
+              (runs_heard w k p state place ascend state.session refl (begins state.session asks) rest u f (record { line = q2.line; counts = q2.counts; notes = q2.notes.1 }) letter q2.notes.0))

@@ -1,5 +1,5 @@
 -- The programs that run at a site.
-use Rattle.std.specs.Prelude.{◌≡◌, ℕ, ◌+◌, ◌<◌, true, List, [], ◌∷◌, ⊤}
+use Rattle.std.specs.Prelude.{◌≡◌, ℕ, ◌+◌, true}
 use Rattle.std.specs.List.{AllByRecursion}
 use Rattle.raid_base.specs.declared.names.Txn.{Txn}
 use Rattle.raid_base.specs.declared.names.Site.{Site}
@@ -8,15 +8,11 @@ use Rattle.raid_base.specs.Sites.{site}
 use Rattle.raid_workload.specs.declared.workload.Workload.{Workload}
 use Rattle.raid_workload.specs.Parts.{txns, home}
 use Rattle.raid_steps.specs.State.{Running, SiteState}
+use Rattle.raid_moves.specs.Moves.{Ascend}
 
 -- the transaction is one of the workload's, and the site is its home
 abbrev pub IsOf : Workload → Site → Txn → Type 0
 IsOf w s t = (has_txn (txns w) t ≡ true) × (is_site s (home w t) ≡ true)
-
--- the programs ascend by their transactions' numbers, so that each transaction has at most one
-abbrev pub Ascend : List Running → Type 0
-Ascend [] = ⊤
-Ascend (r ∷ rs) = AllByRecursion (λ (q : Running). r.txn.0 < q.txn.0) rs × Ascend rs
 
 -- at the site at a place, counted from 0, run programs of its own transactions alone, each once
 pub record RunsOwn (w : Workload) (k : ℕ) (s : SiteState) : Type 0 where

@@ -132,7 +132,9 @@ impl Duplicate for Sites {
 
 impl<T: Duplicate + Drop> Duplicate for Listed<T> {
     fn copy(&self, alloc: Global) -> Result<Self, NoMemory> {
-        let mut copied = Listed::new(alloc);
+        let mut copied = Listed {
+            held: Vec::with_capacity(alloc, self.held.len())?,
+        };
         for value in self.as_slice() {
             copied.push(value.copy(alloc)?)?;
         }

@@ -55,6 +55,21 @@ impl Sender {
     }
 }
 
+impl Sender {
+    /// Moves waiting letters into the ring, as far as the receiver has made room by now. What was sent stays as it was, and it takes no
+    /// memory.
+    pub fn flush(&mut self)
+        ensures same { SameSender self.old self.new }
+        ensures sent { all_sent self.new ≡ all_sent self.old }
+    {
+        if self.waiting.is_empty() {
+            return;
+        }
+        self.producer.slots();
+        refill(&mut self.producer, &mut self.waiting);
+    }
+}
+
 impl Receiver {
     /// The next letter sent. None comes only where each letter that was known at the last settling has been taken.
     /// A letter that was sent since may be given or not, as its sender's thread is fast or slow. It takes no memory.

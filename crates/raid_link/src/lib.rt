@@ -9,7 +9,9 @@ pub mod gate;
 pub mod node;
 #[cfg(test)]
 mod tests;
+pub mod way;
 
 pub use ends::{Receiver, Sender, link, settle};
 pub use gate::{Gate, Open};
 pub use node::Node;
+pub use way::OnTheWay;

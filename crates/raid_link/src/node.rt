@@ -1,4 +1,4 @@
-ghost use Rattle.std.specs.Prelude.{◌≡◌, ℕ, ◌≤◌, List, IfOk, Bool};
+ghost use Rattle.std.specs.Prelude.{◌≡◌, ℕ, ◌+◌, ◌≤◌, List, IfOk, Bool};
 ghost use Rattle.raid_link.specs.Laws.{NodeLaws};
 
 use crate::gate::Gate;
@@ -39,12 +39,20 @@ pub trait Node: Send {
     fn steps(&self) -> u64
         ensures { result ≡ taken self.now };
 
-    /// Takes at most 64 letters, one step each, and calls the gate before each step; answers how many it took. After
+    /// Takes at most so many letters, one step each, and calls the gate before each step; answers how many it took. After
     /// want of memory nothing is said of the node.
-    fn turn<G: Gate>(&mut self, alloc: Global, plan: &Self::Plan, gate: &G) -> Result<u32, NoMemory>
+    fn turn<G: Gate>(
+        &mut self,
+        alloc: Global,
+        plan: &Self::Plan,
+        gate: &G,
+        most: u32,
+    ) -> Result<u32, NoMemory>
         requires own { own self.old plan.now }
-        requires room { taken self.old ≤ 999999936 }
-        ensures { IfOk result (λ n. turns self.old plan.now n self.new) };
+        requires some { 1 ≤ most }
+        requires room { taken self.old + most ≤ 1000000000 }
+        ensures turns { IfOk result (λ n. turns self.old plan.now n self.new) }
+        ensures few { IfOk result (λ n. n ≤ most) };
 
     /// Settles every link of the members. True exactly where one of them holds a letter. It takes no memory.
     fn settle_all(members: &mut [Self]) -> bool

@@ -73,9 +73,7 @@ fn pairs_of(alloc: Global, pairs: &[(Item, i64)]) -> Result<Pairs, NoMemory>
     ensures { IfOk result (λ copied. copied ≡ pairs.now) }
 {
     let mut copied = Pairs::new(alloc);
-    for pair in pairs {
-        copied.push(*pair)?;
-    }
+    copied.push_all(pairs)?;
     Ok(copied)
 }
 

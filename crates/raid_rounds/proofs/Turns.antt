@@ -41,3 +41,10 @@ module _ {S : Type 0} (T : S → ℕ → S → Type 0) where
       let moved : W ((pre ++ y ∷ []) ++ xs) = rw append_assoc one in
       let rest : W ((pre ++ y ∷ []) ++ ys) = turned_keeps W f (pre ++ y ∷ []) xs h.1 ys h.3 moved in
       rw append_assoc at rest
+
+-- what each turn is, weaker
+pub turned_weaker : {S : Type 0} (T U : S → ℕ → S → Type 0) → ((x : S) (k : ℕ) (y : S) → T x k y → U x k y) → (xs : List S) (n : ℕ) (ys : List S) → Turned T xs n ys → Turned U xs n ys
+turned_weaker T U f [] n [] h = h
+turned_weaker T U f [] n (y ∷ ys) h = absurd h
+turned_weaker T U f (x ∷ xs) n [] h = absurd h
+turned_weaker T U f (x ∷ xs) n (y ∷ ys) h = (h.0, h.1, f x h.0 y h.2, turned_weaker T U f xs h.1 ys h.3, h.4)

@@ -1,5 +1,5 @@
 -- The laws of a node.
-use Rattle.std.proofs.Common.{◌≡◌, ℕ, zero, suc, ◌<◌, List, [], ◌∷◌, ◌++◌, length, get_or, take, map, refl, ap₂, arith, inl, inr, length-append, length-take}
+use Rattle.std.proofs.Common.{◌≡◌, ℕ, zero, suc, ◌<◌, ◌≤◌, List, [], ◌∷◌, ◌++◌, length, get_or, take, map, refl, ap₂, arith, inl, inr, length-append, length-take}
 use Rattle.std.proofs.lemmas.Bool.{cases_eq}
 use Rattle.std.proofs.lemmas.List.{get_or-set_other}
 use Rattle.std.proofs.Math.Seq.{set-append_seam, get_or-append_seam}
@@ -58,14 +58,14 @@ after_replaced pre x post m y e k d =
 known_some : {X : Type 0} (places : ℕ) (ls ks : List X) → 0 < places → 0 < length ls → ks ≡ take places ls → 0 < length ks
 known_some places ls ks a b e = rw (e, length-take) (omega arith)
 
-pub ring_fits : (n : ℕ) → NodeLaws TurnMade Settled Whole (λ x. x.number < n) SomeLeft (λ x. 0 < length (known x.input)) (λ x. x.heard)
-ring_fits n = record {
-  turn_counts = λ x k y t. (t.made.heard, t.small);
+pub ring_fits : (n turn : ℕ) → NodeLaws TurnMade Settled Whole (λ x. (x.number < n) × (1 ≤ turn)) SomeLeft (λ x. 0 < length (known x.input)) (λ x. x.heard)
+ring_fits n turn = record {
+  turn_counts = λ x k y t. t.made.heard;
   turn_takes = λ x k y t h. t.some h;
-  turn_own = λ x k y t h. rw t.made.number h;
+  turn_own = λ x k y t h. (rw t.made.number (h.0), h.1);
   turn_whole = λ xs x zs k y t w. whole_after (xs ++ x ∷ zs) (xs ++ y ∷ zs) (simp length-append) (λ j d h. after_replaced xs x zs k y t.made j d) w;
   settle_taken = λ xs b ys s. same_map (λ x. x.heard) xs ys s.long (λ k d h. let e = (s.kept k d h).heard in omega (arith, e));
-  settle_own = λ xs b ys s o k d h. let below : k < length xs = rw (← s.long) h in rw (s.kept k d below).number (o k d below);
+  settle_own = λ xs b ys s o k d h. let below : k < length xs = rw (← s.long) h in (rw (s.kept k d below).number ((o k d below).0), (o k d below).1);
   settle_whole = λ xs b ys s w. whole_after xs ys s.long (λ k d h. (0, s.kept k d h)) w;
   settle_some = λ xs ys s w.
       let t = s.some refl in

@@ -19,10 +19,9 @@ pub record After (x : Relay) (n : ℕ) (y : Relay) : Type 0 where
   pub sender : SameSender x.out y.out
   pub receiver : SameReceiver x.input y.input
 
--- what a turn does: it takes at most 64 letters, and none only where none was known
+-- what a turn does: it takes letters, and none only where none was known
 pub record TurnMade (x : Relay) (n : ℕ) (y : Relay) : Type 0 where
   pub made : After x n y
-  pub small : n ≤ 64
   pub some : 0 < length (known x.input) → 0 < n
 
 -- how many letters are on the link from member k of n

@@ -3,18 +3,20 @@ ghost use Rattle.raid_rounds_tests.specs.Ring.{Whole};
 
 use crate::relay::{Relay, letter};
 use raid_base::NoMemory;
-use raid_link::{Receiver, Sender, link};
+use raid_link::{OnTheWay, Receiver, Sender, link};
 use std::alloc::Global;
+use std::sync::Arc;
 
 /// A relay that has taken no letter.
-fn fresh(number: u16, out: Sender, input: Receiver) -> Relay
-    ensures { result ≡ record { number = number; heard = 0; out = out; input = input } }
+fn fresh(number: u16, out: Sender, input: Receiver, way: Arc<OnTheWay>) -> Relay
+    ensures { result ≡ record { number = number; heard = 0; out = out; input = input; way = way } }
 {
     Relay {
         number,
         heard: 0,
         out,
         input,
+        way,
     }
 }
 
@@ -30,9 +32,12 @@ pub fn ring_of_three(alloc: Global, places: u32, hops: [u32; 3]) -> Result<[Rela
     first.send(letter(hops[0]))?;
     second.send(letter(hops[1]))?;
     third.send(letter(hops[2]))?;
+    let way = Arc::new(alloc, OnTheWay::new(3))?;
+    let other = Arc::try_clone(&way)?;
+    let another = Arc::try_clone(&way)?;
     Ok([
-        fresh(0, first, to_first),
-        fresh(1, second, to_second),
-        fresh(2, third, to_third),
+        fresh(0, first, to_first, way),
+        fresh(1, second, to_second, other),
+        fresh(2, third, to_third, another),
     ])
 }

@@ -8,7 +8,16 @@ use std::sync::atomic::{AtomicU64, Ordering};
 use std::test::Fail;
 
 /// The plan of every test.
-const PLAN: Ring = Ring { members: 3 };
+const PLAN: Ring = Ring {
+    members: 3,
+    turn: 64,
+};
+
+/// The plan of long turns.
+const LONG: Ring = Ring {
+    members: 3,
+    turn: 1_000_000,
+};
 
 /// A letter with so many hops is taken one time more, by one relay after the other: that of 200 is taken by each 67 times,
 /// that of 100 by the relays 2, 0 and 1 in turn, and the last by relay 0.
@@ -26,11 +35,11 @@ fn rounds_end_idle_when_no_letter_is_left(rt: HostRuntime) -> Result<(), Fail> {
 /// Whether no relay comes to more letters than it may take, in so many rounds.
 fn have_room(members: &[Relay], most: u64) -> bool
     requires { most ≤ 1000000 }
-    ensures { IsTrue result → All (λ m. m.heard + 64 * most ≤ 1000000000) members.now }
+    ensures { IsTrue result → All (λ m. m.heard + 64 * most ≤ 640000000) members.now }
 {
     members
         .iter()
-        .all(|relay| relay.heard <= 1_000_000_000 - 64 * most)
+        .all(|relay| relay.heard <= 640_000_000 - 64 * most)
 }
 
 /// Ten rounds have 1,920 steps at most, and there are 10,001 to take. Rounds go on from there, each with a step at least.
@@ -91,5 +100,17 @@ fn two_servers_meet_at_a_gate(rt: HostRuntime) -> Result<(), Fail> {
     assert_eq!(rt; gate.first.load(Ordering::SeqCst), 1);
     assert_eq!(rt; gate.second.load(Ordering::SeqCst), 1);
     assert_eq!(rt; gate.gave_up.load(Ordering::SeqCst), 0);
+    Ok(())
+}
+
+/// With long turns a letter of very many hops is through after few rounds.
+#[test]
+fn long_turns_end_idle(rt: HostRuntime) -> Result<(), Fail> {
+    let mut members = ring_of_three(rt.alloc(), 1, [200_000, 100, 0])?;
+    let end = run_rounds(&rt, rt.alloc(), &mut members, &LONG, &Open, 1000)?;
+    assert_eq!(rt; end, Rounds::Idle);
+    assert_eq!(rt; members[0].heard, 66_702);
+    assert_eq!(rt; members[1].heard, 66_700);
+    assert_eq!(rt; members[2].heard, 66_701);
     Ok(())
 }

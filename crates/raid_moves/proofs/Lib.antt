@@ -1,0 +1,5 @@
+pub mod Filled
+pub mod Left
+pub mod Places
+pub mod Steps
+pub mod Swept

@@ -1,0 +1,4 @@
+pub mod Gives
+pub mod Notes
+pub mod Runs
+pub mod Sites
