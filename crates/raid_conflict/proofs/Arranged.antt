@@ -1,9 +1,10 @@
 -- The committed transactions by the tables: the listing, and a cycle where it isn't whole.
-use Rattle.std.proofs.Common.{◌≡◌, Bool, true, false, not, ◌&&◌, cond, List, [], ◌∷◌, ◌++◌, Some, None, arith, sym, ◌∙◌, ap, subst, refl}
+use Rattle.std.proofs.Common.{◌≡◌, ℕ, Bool, true, false, not, ◌&&◌, ◌||◌, cond, List, [], ◌∷◌, ◌++◌, take, drop, Some, None, arith, sym, ◌∙◌, ap, subst, refl}
 use Rattle.std.specs.Prelude.{find}
 use Rattle.std.specs.List.{list_any}
 use Rattle.std.proofs.lemmas.Bool.{true≢false, and_parts, and_from, or_left}
 use Rattle.std.proofs.lemmas.Grind.{common_steps}
+use Rattle.std.proofs.lemmas.List.{take-append-drop}
 use Rattle.std.proofs.lemmas.List.Folds.{list_any-append}
 use Rattle.raid_base.specs.declared.names.Txn.{Txn}
 use Rattle.raid_base.specs.declared.entry.Noted.{Noted}
@@ -14,8 +15,8 @@ use Rattle.raid_rules.specs.History.{has_aborted}
 use Rattle.raid_rules.specs.Conflict.{edges, precedes, committed, waits_for, is_next, listing}
 use Rattle.raid_rules.specs.Committed.{Joins, IsCycle, IsOrderOf}
 use Rattle.raid_rules.proofs.Push.{same_txn}
-use Rattle.raid_rules.proofs.Txns.{eq_self, off, or_right, out, none_out}
-use Rattle.raid_rules.proofs.Reach.{IsPair}
+use Rattle.raid_rules.proofs.Txns.{eq_self, off, or_right, out, none_out, not_true}
+use Rattle.raid_rules.proofs.Reach.{IsPair, any_mono}
 use Rattle.raid_rules.proofs.Listing.{any_find, left_stuck, arranged_order}
 use Rattle.raid_rules.proofs.Cycle.{cycle_map}
 use Rattle.raid_conflict.specs.declared.tables.Tables.{Tables}
@@ -185,6 +186,27 @@ next_is t view s all left listed l =
     find_members (λ u. is_marked left u && not (waits t left u)) (is_next (edges view) all listed) all
     (λ x i. ap (λ b. b && not (waits t left x)) (l x ∙ ap (λ b. b && not (has_txn listed x)) i)
     ∙ ap (λ b. not (has_txn listed x) && not b) (waits_is t view s left all listed l x))
+
+-- where marks are only taken away, none of these is left afterwards
+pub none_left : (before after : List Bool) (ts : List Txn) → ((t : Txn) → is_marked after t ≡ true → is_marked before t ≡ true) →
+    list_any (λ t. is_marked before t) ts ≡ false → list_any (λ t. is_marked after t) ts ≡ false
+none_left before after ts less none = not_true _ (λ e. true≢false (sym (any_mono (λ t. is_marked after t) (λ t. is_marked before t) less ts e) ∙ none))
+
+-- a search for the next may begin past those of which none is left
+pub past_none : (t : Tables) (left : List Bool) (all : List Txn) (first : ℕ) → list_any (λ u. is_marked left u) (take first all) ≡ false →
+    find (λ u. is_marked left u && not (waits t left u)) (drop first all) ≡ find (λ u. is_marked left u && not (waits t left u)) all
+past_none t left all first none = sym (past (take first all) none) ∙ ap (find (λ u. is_marked left u && not (waits t left u))) (take-append-drop first all)
+  where
+    both_off : (a b : Bool) → (a || b) ≡ false → (a ≡ false) × (b ≡ false)
+    both_off true b e = absurd (true≢false e)
+    both_off false b e = (refl, e)
+
+    past : (ts : List Txn) → list_any (λ u. is_marked left u) ts ≡ false →
+        find (λ u. is_marked left u && not (waits t left u)) (ts ++ drop first all) ≡ find (λ u. is_marked left u && not (waits t left u)) (drop first all)
+    past [] n = refl
+    past (u ∷ us) n =
+        let q = both_off (is_marked left u) (list_any (λ u. is_marked left u) us) n in
+        ap (λ b. cond (b && not (waits t left u)) (Some u) (find (λ u. is_marked left u && not (waits t left u)) (us ++ drop first all))) q.0 ∙ past us q.1
 
 -- with one more listed
 pub left_less : (all : List Txn) (left after : List Bool) (listed : List Txn) (u : Txn) → IsLeft all left listed → ((t : Txn) → is_marked after t ≡ (is_marked left t && not (is_txn t u))) → IsLeft all after (listed ++ u ∷ [])
