@@ -1,4 +1,4 @@
-ghost use Rattle.std.specs.Prelude.{◌≡◌, ◌<◌, ◌≤◌, ℕ, true, false, not, ◌&&◌, ◌||◌, List, [], ◌∷◌, ◌++◌, find, take, drop, length, slice_index_or, vec_len, IfOk, OnOk, OnErr};
+ghost use Rattle.std.specs.Prelude.{◌≡◌, ◌<◌, ◌≤◌, ℕ, true, false, not, ◌&&◌, ◌||◌, List, [], ◌∷◌, ◌++◌, AllPairs, find, take, drop, length, slice_index_or, vec_len, IfOk, OnOk, OnErr};
 ghost use Rattle.std.specs.Bool.{OnTrue, OnFalse};
 ghost use Rattle.std.specs.List.{list_any};
 ghost use Rattle.raid_base.specs.declared.names.Txn.{Txn};
@@ -81,10 +81,10 @@ fn rest(all: &[Txn], first: usize) -> &[Txn]
 }
 
 /// The first of some that is left and need not wait.
-fn next(tables: &Tables, left: &[bool], some: &[Txn]) -> Option<Txn>
-    ensures { result ≡ find (λ t. is_marked left.now t && not (words.waits tables.now left.now t)) some.now }
+fn next(tables: &Tables, left: &[bool], txns: &[Txn]) -> Option<Txn>
+    ensures { result ≡ find (λ t. is_marked left.now t && not (words.waits tables.now left.now t)) txns.now }
 {
-    some.iter().copied().find(|txn| ahead::is_left(left, *txn) && !ahead::waits(tables, left, *txn))
+    txns.iter().copied().find(|txn| ahead::is_left(left, *txn) && !ahead::waits(tables, left, *txn))
 }
 
 /// Lists the first that is left and need not wait, if there is one. None is left before the first place.
@@ -97,7 +97,7 @@ fn list_next(
 ) -> Result<(), NoMemory>
     requires within { first ≤ length all.now }
     requires none { list_any (λ t. is_marked left.old.items t) (take first all.now) ≡ false }
-    ensures ok { OnOk result ((view : List Noted) → Tells tables.now view → IsLeft all.now left.old.items listed.old → (listed.new ≡ list_next (edges view) all.now listed.old) × IsLeft all.now left.new.items listed.new) }
+    ensures ok { OnOk result ((view : List Noted) → Tells tables.now view → AllPairs (λ m n. m.at < n.at) view → IsLeft all.now left.old.items listed.old → (listed.new ≡ list_next (edges view) all.now listed.old) × IsLeft all.now left.new.items listed.new) }
     ensures less { (t : Txn) → is_marked left.new.items t ≡ true → is_marked left.old.items t ≡ true }
 {
     match next(tables, left.as_slice(), rest(all, first)) {
@@ -118,7 +118,7 @@ fn listing(
     left: &mut Vec<bool>,
     all: &[Txn],
 ) -> Result<TxnList, NoMemory>
-    ensures ok { IfOk result (λ listed. (view : List Noted) → Tells tables.now view → IsLeft all.now left.old.items [] → (listed ≡ listing (edges view) all.now) × IsLeft all.now left.new.items listed) }
+    ensures ok { IfOk result (λ listed. (view : List Noted) → Tells tables.now view → AllPairs (λ m n. m.at < n.at) view → IsLeft all.now left.old.items [] → (listed ≡ listing (edges view) all.now) × IsLeft all.now left.new.items listed) }
     ensures less { (t : Txn) → is_marked left.new.items t ≡ true → is_marked left.old.items t ≡ true }
 {
     let mut listed = TxnList::new(alloc);
@@ -194,7 +194,7 @@ fn cycle(
 
 /// The order of the committed transactions: whole, or a cycle of theirs.
 pub fn arranged(alloc: Global, tables: &Tables) -> Result<Order, NoMemory>
-    ensures { IfOk result (λ order. (view : List Noted) → Tells tables.now view → IsOrderOf view order) }
+    ensures { IfOk result (λ order. (view : List Noted) → Tells tables.now view → AllPairs (λ m n. m.at < n.at) view → IsOrderOf view order) }
 {
     let all = tables.committed.as_slice();
     let mut left = marks_of(alloc, all)?;

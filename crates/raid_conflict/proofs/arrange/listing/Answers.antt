@@ -15,9 +15,9 @@ list_next-requires-clause-none c = subst (λ (z : List Bool). list_any (λ t. is
 
 pub loop-round-preserved : goal.loop-round-preserved
 loop-round-preserved c = record {
-  listed = λ view s l.
-      let before = c.loop-round.invariant.listed view s l in
-      let after = c.in_ok-list_next.ensures.ok view s before.1 in (
+  listed = λ view s up l.
+      let before = c.loop-round.invariant.listed view s up l in
+      let after = c.in_ok-list_next.ensures.ok view s up before.1 in (
         after.0
             ∙ ap (words.list_next (words.edges view) c.args.all.now) before.0
             ∙ sym (fold_more (λ listed t. words.list_next (words.edges view) c.args.all.now listed) [] c.args.all.now c.loop-round._round-index (let t : Txn = record { 0 = 0 } in t) c.loop-round-test.true),
