@@ -2,7 +2,9 @@ ghost use Rattle.std.specs.Prelude.{◌≡◌, ◌==◌, ◌≤◌, ◌<◌, nat
 ghost use Rattle.raid_steps.specs.Programs.{with_vote};
 ghost use Rattle.raid_vote.specs.Ballots as words;
 
-use crate::changes::{Ballot, awaited_in, close_in, is_among, is_any_ready_in, join_in, leave_in, vote_in};
+use crate::changes::{
+    Ballot, awaited_in, close_in, is_among, is_any_ready_in, join_in, leave_in, vote_in,
+};
 use raid_base::{NoMemory, Site, Sites, Txn};
 use std::alloc::Global;
 use std::marker::Model;
