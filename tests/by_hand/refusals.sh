@@ -1,12 +1,12 @@
 #!/bin/sh
 # Refuses each allocation of a run in turn, by the kit's own means: `rt try` builds the program anew for each number, which
-# takes a quarter of a minute each, so it is run by hand: sh tests/refusals.sh FIRST LAST. tests/allocations.sh does the same
-# to the built program, in a second. The run has to end with status 6 and nothing written, or as it does where none is refused.
+# takes a quarter of a minute each, so it is run by hand: sh tests/by_hand/refusals.sh FIRST LAST. tests/allocations.sh does the
+# same to the built program, in a second. The run has to end with status 6 and nothing written, or as it does where none is refused.
 if [ $# -ne 2 ] || ! command -v rt >/dev/null; then
-    echo "refusals: skipped, since it is run by hand: sh tests/refusals.sh FIRST LAST"
-    exit 0
+    echo "usage: sh tests/by_hand/refusals.sh FIRST LAST, with the kit's command rt on the path"
+    exit 2
 fi
-cd crates/raid || exit 1
+cd "$(dirname "$0")/../../crates/raid" || exit 1
 room=$(mktemp -d)
 trap 'rm -rf "$room"' EXIT
 number=$1
