@@ -2,12 +2,12 @@
 # Refuses each allocation of a run in turn. The program has to end with status 6 and nothing written, or as
 # it does where none is refused. The workload and its report are those that the gate runs. Where 50 refusals in a row
 # make no difference, each allocation of the run has had its turn.
-cc=$(command -v cc || command -v gcc || command -v clang)
+cd "$(dirname "$0")/.." || exit 1
+. tests/common.inc
+cc=$(command -v cc || command -v gcc || command -v clang) || skip allocations "there is no C compiler"
 program=crates/raid/out/raid
-if [ -z "$cc" ] || [ ! -x "$program" ] || ! ldd "$program" >/dev/null 2>&1; then
-    echo "allocations: skipped, since there is no C compiler, or the program isn't built (bin/raid builds it)"
-    exit 0
-fi
+[ -x "$program" ] || skip allocations "the program isn't built (bin/build builds it)"
+ldd "$program" >/dev/null 2>&1 || skip allocations "the program loads no shared library, so none can stand in for its allocator"
 room=$(mktemp -d)
 trap 'rm -rf "$room"' EXIT
 "$cc" -shared -fPIC -O1 -o "$room/refuse.so" tests/refuse.c -ldl || exit 1

@@ -2,7 +2,7 @@
 # Judges random histories and runs of the reference model by the definitions: see histories.py.
 # RAID_ORACLE names the folder of the model, RAID_HISTORIES how many there are to be (20), RAID_SEED which (1).
 cd "$(dirname "$0")/.." || exit 1
-. tests/model.inc
+. tests/common.inc
 need_model histories fuzz.py
 make_scratch
 

@@ -3,7 +3,7 @@
 # make_sequencer_letters.py.
 # RAID_ORACLE names the folder of the model, RAID_LETTERS how many sequences there are to be (5000), RAID_SEED which (1).
 cd "$(dirname "$0")/.." || exit 1
-. tests/model.inc
+. tests/common.inc
 need_model letters raid_world.py
 make_scratch
 

@@ -2,7 +2,7 @@
 # Reads and prints random and broken report texts as the reference model does: see reports.py.
 # RAID_ORACLE names the folder of the model, RAID_REPORTS how many reports there are to be (5000), RAID_SEED which (1).
 cd "$(dirname "$0")/.." || exit 1
-. tests/model.inc
+. tests/common.inc
 need_model reports raid_report.py
 make_scratch
 

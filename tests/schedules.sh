@@ -3,7 +3,7 @@
 # RAID_ORACLE names the folder of the model, RAID_SCHEDULES how many workloads there are to be, with two schedules of each (500),
 # RAID_SEED which (2).
 cd "$(dirname "$0")/.." || exit 1
-. tests/model.inc
+. tests/common.inc
 need_model schedules explore.py
 make_scratch
 

@@ -2,7 +2,7 @@
 # Reads random and broken workload texts as the reference model does: see texts.py.
 # RAID_ORACLE names the folder of the model, RAID_TEXTS how many texts there are to be (20000), RAID_SEED which (1).
 cd "$(dirname "$0")/.." || exit 1
-. tests/model.inc
+. tests/common.inc
 need_model texts raid_text.py
 make_scratch
 

@@ -1,4 +1,4 @@
-//! Tests of the controllers: verdicts and answers on views worked out by hand, and long runs.
+//! Tests of the controllers and of the rack: verdicts and answers on views worked out by hand, and long runs.
 //!
 //! A play is a line of words. `b1` notes the Begin of t1, `r1x` its Read of x, `c1xy` its Commit of x and y and `a1` its Abort, each
 //! with the next number. `?r1x` and `?c1xy` ask for a verdict and note nothing, `<1` asks whether t1 is backward, and `/12x` whether t1
@@ -10,5 +10,7 @@
 mod long;
 #[cfg(test)]
 mod play;
+#[cfg(test)]
+mod racks;
 #[cfg(test)]
 mod tests;
