@@ -1,5 +1,5 @@
 -- What the table of running transactions says of a view.
-use Rattle.std.specs.Prelude.{◌≡◌, ℕ, ◌<◌, Bool, true, false, ◌&&◌, ◌||◌, List, map, filter, slice_index, slice_index_or, vec_len, vec_capacity, ⊤}
+use Rattle.std.specs.Prelude.{◌≡◌, ℕ, ◌<◌, nat_le, ◌/◌, Bool, true, false, ◌&&◌, ◌||◌, List, map, filter, slice_index, slice_index_or, vec_len, vec_capacity, if◌then◌else◌, ⊤}
 use Rattle.std.specs.List.{list_any}
 use Rattle.raid_base.specs.declared.names.Item.{Item}
 use Rattle.raid_base.specs.declared.names.Txn.{Txn}
@@ -41,6 +41,10 @@ pub record KnowsRunning (r : Running) (view : List Noted) : Type 0 where
   pub reads : (t : Txn) → has_ended view t ≡ false → (test : Item → ℕ → Bool) →
       list_any (λ s. test s.item s.number) (row_of r.reads.items t.0) ≡ list_any (λ n. is_read (λ u x s. is_txn t u && test x n.at) n.entry) view
   pub starts : (test : Txn → Bool) → PassesRunning view test → map noted_of (filter (λ s. test s.txn) r.log.items) ≡ filter (λ n. is_start test n.entry) view
+
+-- how many stale starts are counted after a log of this length was thinned out: none where they were its larger part
+abbrev pub left_stale : ℕ → ℕ → ℕ
+left_stale stale starts = if nat_le stale (starts / 2) then stale else 0
 
 -- there is room for the entry
 abbrev pub HasRunningRoom : Running → Entry → Type 0

@@ -93,7 +93,8 @@ pub fn spare_row<T: Drop>(
     place: usize,
 ) -> usize
     requires { place < length rows.old }
-    ensures { (k : ℕ) → row_of rows.new k ≡ (if k == place then [] else row_of rows.old k) }
+    ensures emptied { (k : ℕ) → row_of rows.new k ≡ (if k == place then [] else row_of rows.old k) }
+    ensures count { result ≡ length (row_of rows.old place) }
 {
     let row = replace(&mut rows[place], Vec::new(alloc));
     let count = row.len();

@@ -7,7 +7,7 @@ ghost use Rattle.raid_rules.specs.Entries.{is_read};
 ghost use Rattle.raid_rules.specs.History.{has_ended, stamp as stamp_in};
 ghost use Rattle.raid_control.specs.Carried.{carried};
 ghost use Rattle.raid_tables.specs.Rows.{row_of, HasRoom};
-ghost use Rattle.raid_tables.specs.Running.{marked, entry_of, noted_of, KnowsRunning, HasRunningRoom, Ends};
+ghost use Rattle.raid_tables.specs.Running.{marked, entry_of, noted_of, left_stale, KnowsRunning, HasRunningRoom, Ends};
 
 use crate::places::{at, grow};
 use crate::rows::{push_in, reserve_from, row, spare_row};
@@ -135,7 +135,9 @@ fn count_live_reads(log: &[Start], ended: &[bool]) -> usize
 /// Takes out the Reads of a transaction that ends, and keeps their memory for another where there is room for it. It answers how many
 /// there were.
 fn forget(alloc: Global, reads: &mut Vec<Vec<Seen>>, spare: &mut Vec<Vec<Seen>>, txn: Txn) -> usize
-    ensures { (u : Txn) → is_txn txn u ≡ false → row_of reads.new.items u.0 ≡ row_of reads.old.items u.0 }
+    ensures emptied { row_of reads.new.items txn.0 ≡ [] }
+    ensures others { (u : Txn) → is_txn txn u ≡ false → row_of reads.new.items u.0 ≡ row_of reads.old.items u.0 }
+    ensures count { result ≡ length (row_of reads.old.items txn.0) }
 {
     let place = txn.0 as usize;
     if reads.len() <= place {
@@ -147,7 +149,8 @@ fn forget(alloc: Global, reads: &mut Vec<Vec<Seen>>, spare: &mut Vec<Vec<Seen>>,
 /// Thins out the log where its larger part is stale, and answers how many stale starts are left there at most. It stays what it was for
 /// transactions without a flag.
 fn thin_out(log: &mut Vec<Start>, ended: &[bool], stale: usize) -> usize
-    ensures { (test : Txn → Bool) → ((t : Txn) → test t ≡ true → marked ended.now t ≡ false) → filter (λ s. test s.txn) log.new.items ≡ filter (λ s. test s.txn) log.old.items }
+    ensures stale { result ≡ left_stale stale (vec_len log.old) }
+    ensures live { (test : Txn → Bool) → ((t : Txn) → test t ≡ true → marked ended.now t ≡ false) → filter (λ s. test s.txn) log.new.items ≡ filter (λ s. test s.txn) log.old.items }
 {
     if stale <= log.len() / 2 {
         return stale;
