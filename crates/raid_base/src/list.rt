@@ -90,6 +90,13 @@ impl<T: Drop> Listed<T> {
     {
         self.held.as_slice()
     }
+
+    /// The values themselves, in their order, for whoever goes through them once and keeps them. Takes no memory.
+    pub fn into_vec(self) -> Vec<T>
+        ensures { result.items ≡ self }
+    {
+        self.held
+    }
 }
 
 impl<T: Copy> Listed<T> {

@@ -1,6 +1,7 @@
 pub mod Alive
 pub mod Arranged
 pub mod Cycles
+pub mod Earliest
 pub mod Extend
 pub mod Latest
 pub mod Lists

@@ -36,7 +36,7 @@ any_never : {X : Type 0} (xs : List X) → false ≡ list_any (λ x. false) xs
 any_never [] = refl
 any_never (x ∷ xs) = any_never xs
 
-any_or : {X : Type 0} (f g : X → Bool) (xs : List X) → (list_any f xs || list_any g xs) ≡ list_any (λ x. f x || g x) xs
+pub any_or : {X : Type 0} (f g : X → Bool) (xs : List X) → (list_any f xs || list_any g xs) ≡ list_any (λ x. f x || g x) xs
 any_or f g [] = refl
 any_or f g (x ∷ xs) = shuffled (f x) (g x) (list_any f xs) (list_any g xs) ∙ ap (λ b. (f x || g x) || b) (any_or f g xs)
   where

@@ -1,5 +1,5 @@
 -- The committed transactions that are left to be listed, and which of them have to wait.
-use Rattle.std.specs.Prelude.{◌≡◌, Bool, true, not, ◌&&◌, List}
+use Rattle.std.specs.Prelude.{◌≡◌, ℕ, nat_lt, Bool, true, not, ◌&&◌, List, take_while}
 use Rattle.std.specs.List.{list_any}
 use Rattle.raid_base.specs.declared.names.Txn.{Txn}
 use Rattle.raid_base.specs.Names.{is_txn, has_txn}
@@ -17,9 +17,13 @@ IsLeft all left listed = (t : Txn) → is_marked left t ≡ (has_txn all t && no
 abbrev pub is_ahead : Tables → List Bool → Action → Action → Bool
 is_ahead t left a b = precedes b a && (not (mark t b.by).aborted && is_marked left b.by)
 
--- such an action stands before the action
+-- the actions at the front of a list that all have smaller numbers than this one
+abbrev pub earliest : ℕ → List Action → List Action
+earliest at actions = take_while (λ b. nat_lt b.at at) actions
+
+-- such an action is at the front of the chain of its item
 abbrev pub is_behind : Tables → List Bool → Action → Bool
-is_behind t left a = list_any (is_ahead t left a) (chain_at t.items.items a.item.0)
+is_behind t left a = list_any (is_ahead t left a) (earliest a.at (chain_at t.items.items a.item.0))
 
 -- an edge from one that is left leads to the transaction
 abbrev pub waits : Tables → List Bool → Txn → Bool

@@ -25,12 +25,14 @@ fn is_ahead(tables: &Tables, left: &[bool], action: &Action, other: &Action) -> 
     conflict::precedes(other, action) && !tables.mark(other.by).aborted && is_left(left, other.by)
 }
 
-/// Whether one of the actions does so.
+/// Whether one of the actions does so. Those of a chain ascend by number: the first that stands no longer before it
+/// ends the look.
 fn any_ahead(tables: &Tables, left: &[bool], action: &Action, others: &[Action]) -> bool
-    ensures { result ≡ list_any (words.is_ahead tables.now left.now action.now) others.now }
+    ensures { result ≡ list_any (words.is_ahead tables.now left.now action.now) (words.earliest action.now.at others.now) }
 {
     others
         .iter()
+        .take_while(|other| other.at < action.at)
         .any(|other| is_ahead(tables, left, action, other))
 }
 
@@ -80,7 +82,7 @@ fn first_ahead(tables: &Tables, left: &[bool], action: &Action, others: &[Action
 
 /// The transaction of the first on its item that does so.
 fn first_on(tables: &Tables, left: &[bool], action: &Action) -> Txn
-    requires { words.is_behind tables.now left.now action.now ≡ true }
+    requires { list_any (words.is_ahead tables.now left.now action.now) (chain_at tables.now.items.items action.now.item.0) ≡ true }
     ensures ahead { words.is_ahead_of tables.now left.now result action.now (chain_at tables.now.items.items action.now.item.0) ≡ true }
     ensures left { is_marked left.now result ≡ true }
 {
@@ -91,6 +93,7 @@ fn first_on(tables: &Tables, left: &[bool], action: &Action) -> Txn
 }
 
 /// The first transaction that is left and from which an edge leads to these actions.
+#[tactic(auto, using(crate::proofs::Earliest::any_earliest))]
 fn first_behind(tables: &Tables, left: &[bool], actions: &[Action]) -> Txn
     requires { list_any (words.is_behind tables.now left.now) actions.now ≡ true }
     ensures kept { words.is_kept_by tables.now left.now result actions.now ≡ true }

@@ -1,4 +1,6 @@
-ghost use Rattle.std.specs.Prelude.{◌≡◌, ℕ, true, not, ◌&&◌, ◌||◌, List, [], ◌∷◌, ◌++◌, find, vec_len, IfOk, OnOk, OnErr};
+ghost use Rattle.std.specs.Prelude.{◌≡◌, ◌<◌, ◌≤◌, ℕ, true, false, not, ◌&&◌, ◌||◌, List, [], ◌∷◌, ◌++◌, AllPairs, find, take, drop, length, slice_index_or, vec_len, IfOk, OnOk, OnErr};
+ghost use Rattle.std.specs.Bool.{OnTrue, OnFalse};
+ghost use Rattle.std.specs.List.{list_any};
 ghost use Rattle.raid_base.specs.declared.names.Txn.{Txn};
 ghost use Rattle.raid_base.specs.declared.entry.Noted.{Noted};
 ghost use Rattle.raid_base.specs.Names.{is_txn, has_txn};
@@ -47,24 +49,58 @@ fn unmark(left: &mut Vec<bool>, txn: Txn)
     }
 }
 
-/// The first that is left and need not wait.
-fn next(tables: &Tables, left: &[bool], all: &[Txn]) -> Option<Txn>
-    ensures { result ≡ find (λ t. is_marked left.now t && not (words.waits tables.now left.now t)) all.now }
+/// Whether there is a transaction at this place that isn't left.
+fn is_taken(left: &[bool], all: &[Txn], place: usize) -> bool
+    ensures yes { OnTrue result ((place < length all.now) × ((d : Txn) → is_marked left.now (slice_index_or all.now place d) ≡ false)) }
+    ensures no { OnFalse result (place < length all.now → (d : Txn) → is_marked left.now (slice_index_or all.now place d) ≡ true) }
 {
-    all.iter().copied().find(|txn| ahead::is_left(left, *txn) && !ahead::waits(tables, left, *txn))
+    place < all.len() && !ahead::is_left(left, all[place])
 }
 
-/// Lists the first that is left and need not wait, if there is one.
+/// The place of the first from this one on that is left, the end where none is.
+fn place_left(left: &[bool], all: &[Txn], from: usize) -> usize
+    requires within { from ≤ length all.now }
+    requires none { list_any (λ t. is_marked left.now t) (take from all.now) ≡ false }
+    ensures within { result ≤ length all.now }
+    ensures none { list_any (λ t. is_marked left.now t) (take result all.now) ≡ false }
+    ensures left { result < length all.now → (d : Txn) → is_marked left.now (slice_index_or all.now result d) ≡ true }
+{
+    let mut place = from;
+    while is_taken(left, all, place) {
+        place += 1;
+    }
+    place
+}
+
+/// Those from this place on.
+fn rest(all: &[Txn], first: usize) -> &[Txn]
+    requires { first ≤ length all.now }
+    ensures { result.now ≡ drop first all.now }
+{
+    &all[first..]
+}
+
+/// The first of some that is left and need not wait.
+fn next(tables: &Tables, left: &[bool], txns: &[Txn]) -> Option<Txn>
+    ensures { result ≡ find (λ t. is_marked left.now t && not (words.waits tables.now left.now t)) txns.now }
+{
+    txns.iter().copied().find(|txn| ahead::is_left(left, *txn) && !ahead::waits(tables, left, *txn))
+}
+
+/// Lists the first that is left and need not wait, if there is one. None is left before the first place.
 fn list_next(
     tables: &Tables,
     left: &mut Vec<bool>,
     all: &[Txn],
+    first: usize,
     listed: &mut TxnList,
 ) -> Result<(), NoMemory>
-    ensures ok { OnOk result ((view : List Noted) → Tells tables.now view → IsLeft all.now left.old.items listed.old → (listed.new ≡ list_next (edges view) all.now listed.old) × IsLeft all.now left.new.items listed.new) }
+    requires within { first ≤ length all.now }
+    requires none { list_any (λ t. is_marked left.old.items t) (take first all.now) ≡ false }
+    ensures ok { OnOk result ((view : List Noted) → Tells tables.now view → AllPairs (λ m n. m.at < n.at) view → IsLeft all.now left.old.items listed.old → (listed.new ≡ list_next (edges view) all.now listed.old) × IsLeft all.now left.new.items listed.new) }
     ensures less { (t : Txn) → is_marked left.new.items t ≡ true → is_marked left.old.items t ≡ true }
 {
-    match next(tables, left.as_slice(), all) {
+    match next(tables, left.as_slice(), rest(all, first)) {
         Some(txn) => {
             listed.push(txn)?;
             unmark(left, txn);
@@ -75,19 +111,21 @@ fn list_next(
 }
 
 /// As many of them as can be listed, each after those of them that have an edge to it. Those that can't stay
-/// marked.
+/// marked. Each search begins at the first that is left.
 fn listing(
     alloc: Global,
     tables: &Tables,
     left: &mut Vec<bool>,
     all: &[Txn],
 ) -> Result<TxnList, NoMemory>
-    ensures ok { IfOk result (λ listed. (view : List Noted) → Tells tables.now view → IsLeft all.now left.old.items [] → (listed ≡ listing (edges view) all.now) × IsLeft all.now left.new.items listed) }
+    ensures ok { IfOk result (λ listed. (view : List Noted) → Tells tables.now view → AllPairs (λ m n. m.at < n.at) view → IsLeft all.now left.old.items [] → (listed ≡ listing (edges view) all.now) × IsLeft all.now left.new.items listed) }
     ensures less { (t : Txn) → is_marked left.new.items t ≡ true → is_marked left.old.items t ≡ true }
 {
     let mut listed = TxnList::new(alloc);
+    let mut first = 0;
     for _round in all {
-        list_next(tables, left, all, &mut listed)?;
+        first = place_left(left.as_slice(), all, first);
+        list_next(tables, left, all, first, &mut listed)?;
     }
     Ok(listed)
 }
@@ -156,7 +194,7 @@ fn cycle(
 
 /// The order of the committed transactions: whole, or a cycle of theirs.
 pub fn arranged(alloc: Global, tables: &Tables) -> Result<Order, NoMemory>
-    ensures { IfOk result (λ order. (view : List Noted) → Tells tables.now view → IsOrderOf view order) }
+    ensures { IfOk result (λ order. (view : List Noted) → Tells tables.now view → AllPairs (λ m n. m.at < n.at) view → IsOrderOf view order) }
 {
     let all = tables.committed.as_slice();
     let mut left = marks_of(alloc, all)?;

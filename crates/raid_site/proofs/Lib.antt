@@ -2,6 +2,7 @@ pub mod Phases
 pub mod Going
 pub mod Rows
 pub mod Each
+pub mod Unready
 pub mod Holders
 pub mod Senders
 pub mod Seats

@@ -346,6 +346,9 @@ pub fn ask_commits(
     ensures live { OnOk result (IsLive workload.now parts.new) }
     ensures whole { OnOk result (IsWhole workload.now parts.new) }
 {
+    if !parts.ballots.is_any_ready() {
+        return Ok(());
+    }
     ascends(parts);
     for place in 0..count(parts) {
         let txn = txn_at(parts, place);

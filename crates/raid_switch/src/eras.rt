@@ -1,4 +1,4 @@
-ghost use Rattle.std.specs.Prelude.{◌≡◌, ℕ, ℤ, true, false, not, List, [], ◌∷◌, ◌++◌, All, Some, None, is_some, option_map, option_to_list, OnOk, OnErr, IfOk, IfErr};
+ghost use Rattle.std.specs.Prelude.{◌≡◌, ℕ, ℤ, nat_lt, true, false, not, List, [], ◌∷◌, ◌++◌, All, Some, None, is_some, option_map, option_to_list, OnOk, OnErr, IfOk, IfErr};
 ghost use Rattle.std.specs.Bool.{OnTrue, OnFalse};
 ghost use Rattle.std.specs.List.{list_any};
 ghost use Rattle.raid_base.specs.declared.names.Txn.{Txn};
@@ -6,8 +6,9 @@ ghost use Rattle.raid_base.specs.declared.names.Item.{Item};
 ghost use Rattle.raid_base.specs.declared.entry.Noted.{Noted};
 ghost use Rattle.raid_base.specs.declared.verdict.Kind.{Kind};
 ghost use Rattle.raid_rules.specs.Verdicts.{asked, verdict_of};
-ghost use Rattle.raid_rules.specs.History.{noted, has_ended};
+ghost use Rattle.raid_rules.specs.History.{noted, stamp, has_ended};
 ghost use Rattle.raid_legal.specs.InForce.{is_tied};
+ghost use Rattle.raid_conflict.specs.Listed.{reaches_before};
 ghost use Rattle.raid_conflict.specs.Live.{Stands};
 ghost use Rattle.raid_rules.specs.Order.{IsInOrder, Fits, MayNote};
 ghost use Rattle.raid_control.specs.Carried.{IsCarry, carried, is_generic};
@@ -129,25 +130,34 @@ fn note_second(
     }
 }
 
-/// Whether the transaction ties a new controller to the time before the entry with this number.
-fn is_tied_to(graph: &mut Graph, history: &History, txn: Txn, before: u32) -> bool
-    ensures answer { Stands graph.old (noted history.now) → has_ended (noted history.now) txn ≡ false → result ≡ is_tied (noted history.now) before txn }
-    ensures stands { (view : List Noted) → Stands graph.old view → Stands graph.new view }
+/// Whether one of the transactions began before the entry with this number.
+fn any_began_before(history: &History, running: &[Txn], before: u32) -> bool
+    ensures { result ≡ list_any (λ t. nat_lt (stamp (noted history.now) t) before) running.now }
 {
-    history.stamp(txn) < before || graph.reaches_before(txn, before)
+    running.iter().any(|txn| history.stamp(*txn) < before)
 }
 
-/// Whether one of the transactions does.
-fn any_tied(graph: &mut Graph, history: &History, running: &[Txn], before: u32) -> bool
-    ensures answer { Stands graph.old (noted history.now) → All (λ t. has_ended (noted history.now) t ≡ false) running.now → result ≡ list_any (is_tied (noted history.now) before) running.now }
+/// Whether conflicts lead from one of the transactions to one that did.
+fn any_reaches_before(graph: &mut Graph, running: &[Txn], before: u32) -> bool
+    ensures answer { (view : List Noted) → Stands graph.old view → All (λ t. has_ended view t ≡ false) running.now → result ≡ list_any (λ t. reaches_before view t before) running.now }
     ensures stands { (view : List Noted) → Stands graph.old view → Stands graph.new view }
 {
     for txn in running {
-        if is_tied_to(graph, history, *txn, before) {
+        if graph.reaches_before(*txn, before) {
             return true;
         }
     }
     false
+}
+
+/// Whether one of the transactions ties a new controller to the time before the entry with this number. The graph is searched only
+/// where none of them began before that entry itself.
+#[tactic(auto, using(crate::proofs::Tied::tied_apart))]
+fn any_tied(graph: &mut Graph, history: &History, running: &[Txn], before: u32) -> bool
+    ensures answer { Stands graph.old (noted history.now) → All (λ t. has_ended (noted history.now) t ≡ false) running.now → result ≡ list_any (is_tied (noted history.now) before) running.now }
+    ensures stands { (view : List Noted) → Stands graph.old view → Stands graph.new view }
+{
+    any_began_before(history, running, before) || any_reaches_before(graph, running, before)
 }
 
 impl Eras {

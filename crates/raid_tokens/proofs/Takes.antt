@@ -1,5 +1,5 @@
 -- What is read is of its form.
-use Rattle.std.proofs.Common.{◌≡◌, ℕ, zero, suc, ◌-◌, ◌<◌, ◌≤◌, Bool, true, false, cond, ◌&&◌, leb, eqb, ℤ, List, [], ◌∷◌, Option, Some, None, Result, Ok, Err, refl, ap, arith, subst}
+use Rattle.std.proofs.Common.{◌+◌, ◌≡◌, ℕ, zero, suc, ◌-◌, ◌<◌, ◌≤◌, Bool, true, false, cond, ◌&&◌, leb, eqb, ℤ, List, [], ◌∷◌, Option, Some, None, Result, Ok, Err, refl, ap, arith, subst}
 use Rattle.std.specs.Prelude.{if◌then◌else◌}
 use Rattle.std.proofs.lemmas.Bool.{leb-true, and_parts}
 use Rattle.raid_scan.specs.Words.{Word}
@@ -96,7 +96,7 @@ register_of_ok (a ∷ d ∷ []) r e =
     let q = and_parts (leb 48 d) (leb d 57) p.1 in
     omega (arith, s.1, leb-true _ _ q.1)
 register_of_ok (a ∷ d ∷ f ∷ []) r e =
-    let s = some_is (eqb a 114 && eqb d 49 && is_within 48 53 f) (f - 38) r e in
+    let s = some_is (eqb a 114 && eqb d 49 && is_within 48 53 f) (10 + (f - 48)) r e in
     let p = and_parts (eqb a 114 && eqb d 49) (is_within 48 53 f) s.0 in
     let q = and_parts (leb 48 f) (leb f 53) p.1 in
     omega (arith, s.1, leb-true _ _ q.1)

@@ -85,7 +85,7 @@ register_again r lt =
           let e : fmt.decimal r ≡ 49 ∷ (48 + r % 10) ∷ [] = decimal_step r two (omega arith) ∙ rw (q, decimal_digit 1 (omega arith)) refl in
           let a : leb 48 (48 + r % 10) ≡ true = le-leb _ _ (omega arith) in
           let b : leb (48 + r % 10) 53 ≡ true = le-leb _ _ (omega arith) in
-          let d : 48 + r % 10 - 38 ≡ r = omega arith in
+          let d : 10 + (48 + r % 10 - 48) ≡ r = omega arith in
           rw (e, a, b, d) refl
     ]
 

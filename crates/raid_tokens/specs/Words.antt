@@ -14,8 +14,27 @@ use Rattle.raid_workload.specs.Rules.{is_within}
 
 -- ---- the forms
 
+-- the bytes that they are made of
+abbrev pub digit_0 : ℕ
+digit_0 = 48
+
+abbrev pub digit_1 : ℕ
+digit_1 = 49
+
+abbrev pub digit_5 : ℕ
+digit_5 = 53
+
+abbrev pub digit_9 : ℕ
+digit_9 = 57
+
+abbrev pub letter_r : ℕ
+letter_r = 114
+
+abbrev pub minus_sign : ℕ
+minus_sign = 45
+
 abbrev pub is_digit : ℕ → Bool
-is_digit b = is_within 48 57 b
+is_digit b = is_within digit_0 digit_9 b
 
 -- 1 to most digits
 unfoldable pub is_number : ℕ → Word → Bool
@@ -24,7 +43,7 @@ is_number most word = is_within 1 most (length word) && list_all is_digit word
 -- the number behind these digits, of which the first stand for n
 abbrev pub decimal_from : ℕ → List ℕ → ℕ
 decimal_from n [] = n
-decimal_from n (b ∷ bytes) = decimal_from (10 * n + (b - 48)) bytes
+decimal_from n (b ∷ bytes) = decimal_from (10 * n + (b - digit_0)) bytes
 
 unfoldable pub decimal : List ℕ → ℕ
 decimal digits = decimal_from 0 digits
@@ -33,8 +52,8 @@ decimal digits = decimal_from 0 digits
 unfoldable pub register_of : Word → Option ℕ
 register_of [] = None
 register_of (r ∷ []) = None
-register_of (r ∷ d ∷ []) = if r == 114 && is_digit d then Some (d - 48) else None
-register_of (r ∷ d ∷ e ∷ []) = if r == 114 && d == 49 && is_within 48 53 e then Some (e - 38) else None
+register_of (r ∷ d ∷ []) = if r == letter_r && is_digit d then Some (d - digit_0) else None
+register_of (r ∷ d ∷ e ∷ []) = if r == letter_r && d == digit_1 && is_within digit_0 digit_5 e then Some (10 + (e - digit_0)) else None
 register_of (r ∷ d ∷ e ∷ f ∷ bytes) = None
 
 abbrev pub signed : Bool → ℕ → ℤ
@@ -47,7 +66,7 @@ magnitude_of negative digits =
 
 unfoldable pub value_of : Word → Result ℤ Fault
 value_of [] = Err Token
-value_of (b ∷ bytes) = if b == 45 then magnitude_of true bytes else magnitude_of false (b ∷ bytes)
+value_of (b ∷ bytes) = if b == minus_sign then magnitude_of true bytes else magnitude_of false (b ∷ bytes)
 
 -- ---- what stands next
 

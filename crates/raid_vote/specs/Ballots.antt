@@ -1,5 +1,5 @@
 -- The open ballots of a home, and what is done with them.
-use Rattle.std.specs.Prelude.{ℕ, Bool, not, List, [], ◌∷◌, ◌++◌, filter, map, find, if◌then◌else◌}
+use Rattle.std.specs.Prelude.{ℕ, ◌==◌, Bool, not, List, [], ◌∷◌, ◌++◌, length, filter, map, find, if◌then◌else◌}
 use Rattle.std.specs.List.{list_any}
 use Rattle.std.specs.Option.{option_map_or}
 use Rattle.raid_base.specs.declared.names.Txn.{Txn}
@@ -23,6 +23,14 @@ is_open h t = list_any (is_of t) h.ballots
 -- the sites whose votes the transaction awaits, none where it has no open ballot
 abbrev pub awaited : Held → Txn → List Site
 awaited h t = option_map_or (λ (b : Ballot). b.awaited) (find (is_of t) h.ballots) []
+
+-- the ballot awaits no vote
+abbrev pub is_ready : Ballot → Bool
+is_ready b = length b.awaited == 0
+
+-- some open ballot awaits no vote
+abbrev pub is_any_ready : Held → Bool
+is_any_ready h = list_any is_ready h.ballots
 
 -- the sites without one
 abbrev pub without : Site → List Site → List Site

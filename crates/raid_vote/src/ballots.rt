@@ -2,7 +2,9 @@ ghost use Rattle.std.specs.Prelude.{◌≡◌, ◌==◌, ◌≤◌, ◌<◌, nat
 ghost use Rattle.raid_steps.specs.Programs.{with_vote};
 ghost use Rattle.raid_vote.specs.Ballots as words;
 
-use crate::changes::{Ballot, awaited_in, close_in, is_among, join_in, leave_in, vote_in};
+use crate::changes::{
+    Ballot, awaited_in, close_in, is_among, is_any_ready_in, join_in, leave_in, vote_in,
+};
 use raid_base::{NoMemory, Site, Sites, Txn};
 use std::alloc::Global;
 use std::marker::Model;
@@ -105,6 +107,14 @@ impl Ballots {
         ensures { result ≡ (length (words.awaited self.now txn) == 0) }
     {
         self.awaited(txn).is_empty()
+    }
+
+    /// Whether any open ballot awaits no vote, told in one pass over the ballots. Where none does, no transaction with an open
+    /// ballot is ready.
+    pub fn is_any_ready(&self) -> bool
+        ensures { result ≡ words.is_any_ready self.now }
+    {
+        is_any_ready_in(self.ballots.as_slice())
     }
 
     /// Closes the transaction's ballot. Changes nothing where it has none open.

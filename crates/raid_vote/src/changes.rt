@@ -118,3 +118,10 @@ pub fn awaited_in(ballots: &[Ballot], txn: Txn) -> Sites
     }
     Sites::none()
 }
+
+/// Whether any ballot awaits no vote.
+pub fn is_any_ready_in(ballots: &[Ballot]) -> bool
+    ensures { result ≡ list_any words.is_ready ballots.now }
+{
+    ballots.iter().any(|ballot| ballot.awaited.is_empty())
+}
