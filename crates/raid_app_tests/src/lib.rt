@@ -13,8 +13,6 @@ mod refusals;
 #[cfg(test)]
 mod reports;
 #[cfg(test)]
-mod several;
-#[cfg(test)]
 mod texts;
 #[cfg(test)]
 mod told;

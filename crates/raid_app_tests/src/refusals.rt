@@ -38,6 +38,13 @@ const REFUSED: [(&str, &str); 7] = [
     ),
 ];
 
+/// Texts of so many bytes, with the status, what is written, and what is left of the text.
+const LENGTHS: [(usize, u8, &str, &str); 3] = [
+    (MOST, 0, NOTHING_DONE, ""),
+    (MOST + 1, 3, "refused too long\n", ""),
+    (MOST + 4, 3, "refused too long\n", "ne\n"),
+];
+
 /// Runs a text behind a comment, which makes it `length` bytes long.
 fn told_behind_a_comment(alloc: Global, text: &str, length: usize) -> Result<Outcome, NoMemory> {
     let mut bytes = vec![in alloc; b'#'; length.saturating_sub(text.len() + 1)]?;
@@ -58,26 +65,12 @@ fn the_first_fault_is_named(rt: HostRuntime) -> Result<(), Fail> {
 }
 
 #[test]
-fn a_text_of_the_most_bytes_is_run(rt: HostRuntime) -> Result<(), Fail> {
-    let told = told_behind_a_comment(rt.alloc(), NOTHING, MOST)?;
-    assert_eq!(rt; told.status, 0);
-    assert_eq!(rt; told.written(), NOTHING_DONE.as_bytes());
-    Ok(())
-}
-
-#[test]
-fn a_text_of_one_byte_more_is_too_long(rt: HostRuntime) -> Result<(), Fail> {
-    let told = told_behind_a_comment(rt.alloc(), NOTHING, MOST + 1)?;
-    assert_eq!(rt; told.status, 3);
-    assert_eq!(rt; told.written(), b"refused too long\n".as_slice());
-    Ok(())
-}
-
-#[test]
 fn no_more_is_read_than_shows_that_a_text_is_too_long(rt: HostRuntime) -> Result<(), Fail> {
-    let told = told_behind_a_comment(rt.alloc(), NOTHING, MOST + 4)?;
-    assert_eq!(rt; told.status, 3);
-    assert_eq!(rt; told.written(), b"refused too long\n".as_slice());
-    assert_eq!(rt; told.left(), b"ne\n".as_slice());
+    for (length, status, written, left) in LENGTHS {
+        let told = told_behind_a_comment(rt.alloc(), NOTHING, length)?;
+        assert_eq!(rt; told.status, status, "{length}");
+        assert_eq!(rt; told.written(), written.as_bytes(), "{length}");
+        assert_eq!(rt; told.left(), left.as_bytes(), "{length}");
+    }
     Ok(())
 }
