@@ -1,4 +1,4 @@
-//! controllers are taken.
+//! The trait of concurrency controllers, what one controller hands to the next at a switch, and the rack from which controllers are taken.
 //!
 //! The sequencer above knows controllers by the trait alone, and so do all contracts: which tables a controller keeps is its own affair.
 #![tactic(auto)]
