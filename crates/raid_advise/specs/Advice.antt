@@ -1,0 +1,93 @@
+-- Which switch the end of a history speaks for.
+use Rattle.std.specs.Prelude.{ℕ, ◌*◌, ◌==◌, min, max, nat_lt, nat_le, Bool, true, false, ◌&&◌, ◌||◌, List, [], ◌∷◌, length, fold, count_by, Option, Some, None, if◌then◌else◌}
+use Rattle.raid_base.specs.declared.entry.Entry.{Entry}
+use Rattle.raid_base.specs.declared.entry.Entry.TheVariants.{Wait, Abort, SwitchOn}
+use Rattle.raid_base.specs.declared.entry.Cause.TheVariants.{Late, Invalid, Cycle, Deadlock}
+use Rattle.raid_base.specs.declared.verdict.Kind.{Kind}
+use Rattle.raid_base.specs.declared.verdict.Kind.TheVariants.{Lock, Stamp, Valid, Graph}
+use Rattle.raid_base.specs.declared.verdict.Method.{Method}
+use Rattle.raid_base.specs.declared.verdict.Method.TheVariants.{Generic, Suffix}
+use Rattle.raid_base.specs.declared.verdict.Structure.{Structure}
+use Rattle.raid_base.specs.declared.verdict.Structure.TheVariants.{Native, GenericState}
+use Rattle.raid_workload.specs.declared.workload.Workload.{Workload}
+use Rattle.raid_rules.specs.Entries.{is_commit, is_switch_on, is_end}
+use Rattle.raid_advise.specs.declared.advice.Advice.{Advice}
+use Rattle.raid_advise.specs.declared.advice.Advice.TheVariants.{Keep, Switch}
+use Rattle.raid_advise.specs.Added.{last_trigger}
+
+-- how many ends there are
+abbrev pub ends : List Entry → ℕ
+ends es = count_by is_end es
+
+-- how many of them are Commits
+abbrev pub is_any_commit : Entry → Bool
+is_any_commit e = is_commit (λ t request. true) e
+
+abbrev pub commits : List Entry → ℕ
+commits es = count_by is_any_commit es
+
+-- the entries with the last so many ends: all where there are no more, and else those after the end that stands just before them
+abbrev pub window : ℕ → List Entry → List Entry
+window last [] = []
+window last (e ∷ es) = if nat_le (ends (e ∷ es)) last then e ∷ es else window last es
+
+-- how many switches came on
+abbrev pub came_on : List Entry → ℕ
+came_on h = count_by (is_switch_on (λ k. true)) h
+
+-- the kind that an entry leaves, given the one before it: a SwitchOn brings in another
+abbrev pub kind_after : Kind → Entry → Kind
+kind_after kind (SwitchOn k to method) = to
+kind_after kind other = kind
+
+-- the kind that came in last, the opening kind where none did
+abbrev pub latest_kind : Kind → List Entry → Kind
+latest_kind opening h = fold kind_after opening h
+
+-- the entry shows what the kind costs: under locks a Wait, or an Abort that broke a cycle of waits; else an Abort by the kind's refusal
+abbrev pub is_cost : Kind → Entry → Bool
+is_cost Lock (Wait t request) = true
+is_cost Lock (Abort t Deadlock act) = true
+is_cost Stamp (Abort t Late act) = true
+is_cost Valid (Abort t Invalid act) = true
+is_cost Graph (Abort t Cycle act) = true
+is_cost kind other = false
+
+abbrev pub costs : Kind → List Entry → ℕ
+costs kind es = count_by (is_cost kind) es
+
+-- the kind to go to from this one, given the counts of Commits and of costs: none where the kind costs little, but from locks that cost
+-- nothing to validation
+abbrev pub better : Kind → ℕ → ℕ → Option Kind
+better Lock commits costs = if nat_lt commits costs then Some Stamp else if costs == 0 && nat_lt 0 commits then Some Valid else None
+better Stamp commits costs = if nat_lt commits (2 * costs) then Some Lock else None
+better Valid commits costs = if nat_lt commits (2 * costs) then Some Lock else None
+better Graph commits costs = if nat_lt commits (2 * costs) then Some Stamp else None
+
+-- the workload has as many switches as it may have
+abbrev pub is_full : Workload → Bool
+is_full w = length w.switches == 64
+
+-- a switch of the workload hasn't come on
+abbrev pub awaits_switch : Workload → List Entry → Bool
+awaits_switch w h = nat_lt (came_on h) (length w.switches)
+
+-- generic switches are for the generic structure
+abbrev pub method_for : Structure → Method
+method_for Native = Suffix
+method_for GenericState = Generic
+
+-- the trigger that the switch gets: the count of ends, 2,000 at most, and no less than the last trigger
+abbrev pub trigger : Workload → List Entry → ℕ
+trigger w h = max (last_trigger w) (min 2000 (ends h))
+
+abbrev pub advice_to : Workload → List Entry → Option Kind → Advice
+advice_to w h None = Keep
+advice_to w h (Some kind) = Switch kind (method_for w.structure) (trigger w h)
+
+-- the advice: to go from the kind that came in last to the one that the window speaks for
+abbrev pub advice : Workload → List Entry → ℕ → Advice
+advice w h last =
+    let kind = latest_kind w.kind h in
+    let seen = window last h in
+    if is_full w || awaits_switch w h then Keep else advice_to w h (better kind (commits seen) (costs kind seen))

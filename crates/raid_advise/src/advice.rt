@@ -1,0 +1,81 @@
+ghost use Rattle.std.specs.Prelude.{◌≡◌, ◌*◌, ◌<◌, ◌^◌, Ok, min, max};
+ghost use Rattle.raid_advise.specs.Advice as words;
+ghost use Rattle.raid_advise.specs.Added.{last_trigger};
+
+use crate::added::{LARGEST_TRIGGER, MOST_SWITCHES, last_trigger};
+use crate::past::{Past, commits, costs, window};
+use raid_base::{Entries, Kind, Method, NoMemory, Structure};
+use raid_workload::Workload;
+use std::alloc::Global;
+
+/// What to do with a workload's switches.
+#[derive(Clone, Copy, Debug, PartialEq, Eq)]
+pub enum Advice {
+    /// Leave them as they are.
+    Keep,
+    /// Add this one last: to the kind, by the method, once `after` transactions have ended, 1 to 2,000.
+    Switch {
+        kind: Kind,
+        method: Method,
+        after: u32,
+    },
+}
+
+/// What a history of the workload speaks for, by its entries with the last so many ends, `last`. It takes no
+/// memory, so it is never refused any.
+pub fn advise(
+    _alloc: Global,
+    workload: &Workload,
+    entries: &Entries,
+    last: u32,
+) -> Result<Advice, NoMemory>
+    ensures { result ≡ Ok (words.advice workload.now entries.now last) }
+{
+    let past = Past::of(workload.kind, entries.as_slice());
+    let switches = workload.switches.len();
+    if switches == MOST_SWITCHES || past.switches < switches {
+        return Ok(Advice::Keep);
+    }
+    let seen = window(entries.as_slice(), past.ends, last);
+    let to = better(past.kind, commits(seen), costs(past.kind, seen));
+    Ok(match to {
+        Some(kind) => Advice::Switch {
+            kind,
+            method: method_for(workload.structure),
+            after: trigger(workload, past.ends),
+        },
+        None => Advice::Keep,
+    })
+}
+
+/// The kind to go to from this one, given the counts of Commits and of what the kind costs.
+fn better(kind: Kind, commits: usize, costs: usize) -> Option<Kind>
+    requires { 2 * costs < 2 ^ 64 }
+    ensures { result ≡ words.better kind commits costs }
+{
+    match kind {
+        Kind::Lock if costs > commits => Some(Kind::Stamp),
+        Kind::Lock if costs == 0 && commits > 0 => Some(Kind::Valid),
+        Kind::Stamp if 2 * costs > commits => Some(Kind::Lock),
+        Kind::Valid if 2 * costs > commits => Some(Kind::Lock),
+        Kind::Graph if 2 * costs > commits => Some(Kind::Stamp),
+        _ => None,
+    }
+}
+
+/// The method for a structure.
+fn method_for(structure: Structure) -> Method
+    ensures { result ≡ words.method_for structure }
+{
+    match structure {
+        Structure::Native => Method::Suffix,
+        Structure::GenericState => Method::Generic,
+    }
+}
+
+/// The trigger of a switch that is added last, given the count of ends.
+fn trigger(workload: &Workload, ends: usize) -> u32
+    ensures { result ≡ max (last_trigger workload.now) (min 2000 ends) }
+{
+    last_trigger(workload).max(ends.min(LARGEST_TRIGGER as usize) as u32)
+}

@@ -1,0 +1,13 @@
+//! Advice on a workload: the switch that the end of a history speaks for, and the workload with that switch.
+//!
+//! What is advised is a definition, `specs/Advice.antt`. Where the history is legal, the workload with the
+//! advised switch keeps every rule of a workload.
+#![tactic(auto)]
+
+pub mod added;
+pub mod advice;
+pub mod laws;
+mod past;
+
+pub use added::{may_be_added, with};
+pub use advice::{Advice, advise};
