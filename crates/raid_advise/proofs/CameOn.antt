@@ -1,5 +1,5 @@
 -- The switches that came on in a legal history are the workload's first ones, in order.
-use Rattle.std.proofs.Common.{◌≡◌, ℕ, zero, suc, ◌+◌, ◌<◌, ◌≤◌, Bool, true, false, not, ◌&&◌, nat_le, List, [], ◌∷◌, ◌++◌, length, fold, take, Option, Some, None, if◌then◌else◌, inl, inr, arith, refl, sym, ap, subst, ◌∙◌, add-one}
+use Rattle.std.proofs.Common.{◌≡◌, ℕ, zero, suc, ◌+◌, ◌≤◌, Bool, true, false, not, ◌&&◌, nat_le, List, [], ◌∷◌, ◌++◌, length, fold, take, Option, Some, None, if◌then◌else◌, inl, inr, arith, refl, sym, ap, subst, ◌∙◌, add-one}
 use Rattle.std.specs.Prelude.{find, slice_get, option_and_then}
 use Rattle.std.proofs.lemmas.List.{take_all}
 use Rattle.std.proofs.lemmas.List.Sums.{sum_by-append, fold-append}
@@ -19,15 +19,15 @@ use Rattle.raid_workload.specs.declared.workload.Switch.{Switch}
 use Rattle.raid_workload.specs.declared.workload.Workload.{Workload}
 use Rattle.raid_workload.specs.Parts.{home}
 use Rattle.raid_rules.specs.Entries.{is_switch_on}
-use Rattle.raid_rules.specs.History.{noted, add, stamp, ends, is_running, is_waiting}
+use Rattle.raid_rules.specs.History.{noted, stamp, ends, is_running, is_waiting}
 use Rattle.raid_rules.specs.Verdicts.{writing}
 use Rattle.raid_rules.proofs.Places.{by_last}
 use Rattle.raid_rules.proofs.Push.{noted_push}
 use Rattle.raid_legal.specs.Seen.{running, is_up}
 use Rattle.raid_legal.specs.Answers.{answer_commit, answered, decided, closes_waits, site_refusal}
 use Rattle.raid_legal.specs.InForce.{InForce, in_force, is_joint, turn, turn_end, end_due, verdict}
-use Rattle.raid_legal.specs.Forced.{forced, home_down, switch_off, switch_end, switch_on, woken}
-use Rattle.raid_legal.specs.Legal.{Legal, Allowed, Comes}
+use Rattle.raid_legal.specs.Forced.{home_down, switch_off, switch_end, switch_on, woken}
+use Rattle.raid_legal.specs.Legal.{Legal, Allowed}
 use Rattle.raid_legal.proofs.Push.{legal_push}
 use Rattle.raid_serial.proofs.Facts.{some_is, none_is, map_some, if_some, first_mapped, sort}
 use Rattle.raid_serial.proofs.Force.{in_force_push}
@@ -102,9 +102,9 @@ module _ (w : Workload) (p : List Noted) where
       record {
         count = ap (λ m. m + 1) c.count ∙ sym one;
         latest = sym n.2
-        ∙ sym (fold-append (λ before (s : Switch). s.kind) w.kind (take f.switches w.switches) (n.0 ∷ []))
-        ∙ ap (kind_from w.kind) (sym (take_next f.switches w.switches n.0 n.1))
-        ∙ ap (λ m. kind_from w.kind (take m w.switches)) (sym (one ∙ add-one f.switches));
+            ∙ sym (fold-append (λ before (s : Switch). s.kind) w.kind (take f.switches w.switches) (n.0 ∷ []))
+            ∙ ap (kind_from w.kind) (sym (take_next f.switches w.switches n.0 n.1))
+            ∙ ap (λ m. kind_from w.kind (take m w.switches)) (sym (one ∙ add-one f.switches));
       }
 
   still : (f g : InForce) (many : ℕ) (kind : Kind) → g.switches ≡ f.switches → CameOn w f many kind → CameOn w g (many + 0) kind

@@ -1,6 +1,6 @@
 -- The switch that is advised after a legal history may be added to its workload.
-use Rattle.std.proofs.Common.{◌≡◌, ◌⊎◌, inl, inr, ℕ, ◌+◌, ◌*◌, ◌<◌, ◌≤◌, Bool, true, false, not, ◌&&◌, ◌||◌, ◌==◌, nat_lt, nat_le, List, [], ◌∷◌, length, map, Option, Some, None, if◌then◌else◌, arith, refl, sym, ap, subst, ◌∙◌}
-use Rattle.std.specs.Prelude.{min, max}
+use Rattle.std.proofs.Common.{◌≡◌, ◌⊎◌, inl, inr, ℕ, ◌*◌, ◌<◌, ◌≤◌, Bool, true, false, ◌&&◌, ◌||◌, ◌==◌, nat_lt, List, length, Option, Some, None, if◌then◌else◌, arith, refl, sym, ap, subst, ◌∙◌}
+use Rattle.std.specs.Prelude.{min}
 use Rattle.std.proofs.Math.Nat.{max-le, le-max_left}
 use Rattle.std.proofs.lemmas.Bool.{true≢false, leb-true, le-leb, ltb-false}
 use Rattle.std.proofs.lemmas.Grind.{common_steps}
@@ -14,7 +14,6 @@ use Rattle.raid_workload.specs.declared.workload.Workload.{Workload}
 use Rattle.raid_workload.specs.Rules.{is_kind, is_method_for, is_within}
 use Rattle.raid_legal.specs.Legal.{Legal}
 use Rattle.raid_serial.proofs.Facts.{some_is, none_is, if_some}
-use Rattle.raid_advise.specs.declared.advice.Advice.{Advice}
 use Rattle.raid_advise.specs.declared.advice.Advice.TheVariants.{Keep, Switch}
 use Rattle.raid_advise.specs.Added.{last_trigger, may_be_added}
 use Rattle.raid_advise.specs.Advice.{ends, commits, window, latest_kind, costs, better, is_full, awaits_switch, method_for, trigger, advice_to, advice}
@@ -46,13 +45,13 @@ pub record Says (w : Workload) (h : List Entry) (last : ℕ) (kind : Kind) (meth
   pub takes : (is_full w || awaits_switch w h) ≡ false
   pub other : is_kind (latest_kind w.kind h) kind ≡ false
   pub by : method ≡ method_for w.structure
-  pub at : after ≡ trigger w h
+  pub at : after ≡ trigger w (ends h)
 
 module _ (w : Workload) (h : List Entry) (last : ℕ) (kind : Kind) (method : Method) (after : ℕ) where
-  to_says : (from : Kind) (o : Option Kind) → (is_full w || awaits_switch w h) ≡ false → latest_kind w.kind h ≡ from → ((to : Kind) → o ≡ Some to → is_kind from to ≡ false) → advice_to w h o ≡ Switch kind method after → Says w h last kind method after
+  to_says : (from : Kind) (o : Option Kind) → (is_full w || awaits_switch w h) ≡ false → latest_kind w.kind h ≡ from → ((to : Kind) → o ≡ Some to → is_kind from to ≡ false) → advice_to w (ends h) o ≡ Switch kind method after → Says w h last kind method after
   to_says from None s same other q = absurd cc
   to_says from (Some to) s same other q =
-      let parted : (to ≡ kind) × (method_for w.structure ≡ method) × (trigger w h ≡ after) = (cc, cc, cc) in
+      let parted : (to ≡ kind) × (method_for w.structure ≡ method) × (trigger w (ends h) ≡ after) = (cc, cc, cc) in
       record {
         takes = s;
         other = ap (λ k. is_kind k kind) same ∙ ap (is_kind from) (sym parted.0) ∙ other to refl;
@@ -69,7 +68,7 @@ module _ (w : Workload) (h : List Entry) (last : ℕ) (kind : Kind) (method : Me
       seen : List Entry
       seen = window last h
 
-      go : (b : Bool) → (is_full w || awaits_switch w h) ≡ b → (if b then Keep else advice_to w h (better from (commits seen) (costs from seen))) ≡ Switch kind method after → Says w h last kind method after
+      go : (b : Bool) → (is_full w || awaits_switch w h) ≡ b → (if b then Keep else advice_to w (ends h) (better from (commits seen) (costs from seen))) ≡ Switch kind method after → Says w h last kind method after
       go true s q = absurd cc
       go false s q = to_says from (better from (commits seen) (costs from seen)) s refl (λ to found. better_other from to (commits seen) (costs from seen) found) q
 

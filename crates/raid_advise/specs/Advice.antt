@@ -78,16 +78,17 @@ method_for Native = Suffix
 method_for GenericState = Generic
 
 -- the trigger that the switch gets: the count of ends, 2,000 at most, and no less than the last trigger
-abbrev pub trigger : Workload → List Entry → ℕ
-trigger w h = max (last_trigger w) (min 2000 (ends h))
+abbrev pub trigger : Workload → ℕ → ℕ
+trigger w ends = max (last_trigger w) (min 2000 ends)
 
-abbrev pub advice_to : Workload → List Entry → Option Kind → Advice
-advice_to w h None = Keep
-advice_to w h (Some kind) = Switch kind (method_for w.structure) (trigger w h)
+-- the advice to go to a kind, if there is one, given the count of ends
+abbrev pub advice_to : Workload → ℕ → Option Kind → Advice
+advice_to w ends None = Keep
+advice_to w ends (Some kind) = Switch kind (method_for w.structure) (trigger w ends)
 
--- the advice: to go from the kind that came in last to the one that the window speaks for
+-- the advice after a history, by its entries with the last so many ends: to go from the kind that came in last to the one that they speak for
 abbrev pub advice : Workload → List Entry → ℕ → Advice
 advice w h last =
     let kind = latest_kind w.kind h in
     let seen = window last h in
-    if is_full w || awaits_switch w h then Keep else advice_to w h (better kind (commits seen) (costs kind seen))
+    if is_full w || awaits_switch w h then Keep else advice_to w (ends h) (better kind (commits seen) (costs kind seen))

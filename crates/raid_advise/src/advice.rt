@@ -1,6 +1,5 @@
-ghost use Rattle.std.specs.Prelude.{◌≡◌, ◌*◌, ◌<◌, ◌^◌, Ok, min, max};
+ghost use Rattle.std.specs.Prelude.{◌≡◌, ◌*◌, ◌<◌, ◌^◌, Ok};
 ghost use Rattle.raid_advise.specs.Advice as words;
-ghost use Rattle.raid_advise.specs.Added.{last_trigger};
 
 use crate::added::{LARGEST_TRIGGER, MOST_SWITCHES, last_trigger};
 use crate::past::{Past, commits, costs, window};
@@ -38,14 +37,21 @@ pub fn advise(
     }
     let seen = window(entries.as_slice(), past.ends, last);
     let to = better(past.kind, commits(seen), costs(past.kind, seen));
-    Ok(match to {
+    Ok(advice_to(workload, past.ends, to))
+}
+
+/// The advice to go to a kind, if there is one, given the count of ends.
+fn advice_to(workload: &Workload, ends: usize, to: Option<Kind>) -> Advice
+    ensures { result ≡ words.advice_to workload.now ends to }
+{
+    match to {
+        None => Advice::Keep,
         Some(kind) => Advice::Switch {
             kind,
             method: method_for(workload.structure),
-            after: trigger(workload, past.ends),
+            after: trigger(workload, ends),
         },
-        None => Advice::Keep,
-    })
+    }
 }
 
 /// The kind to go to from this one, given the counts of Commits and of what the kind costs.
@@ -75,7 +81,7 @@ fn method_for(structure: Structure) -> Method
 
 /// The trigger of a switch that is added last, given the count of ends.
 fn trigger(workload: &Workload, ends: usize) -> u32
-    ensures { result ≡ max (last_trigger workload.now) (min 2000 ends) }
+    ensures { result ≡ words.trigger workload.now ends }
 {
     last_trigger(workload).max(ends.min(LARGEST_TRIGGER as usize) as u32)
 }

@@ -63,10 +63,34 @@ fn is_cost(kind: Kind, entry: &Entry) -> bool
 {
     match (kind, entry) {
         (Kind::Lock, Entry::Wait { .. }) => true,
-        (Kind::Lock, Entry::Abort { cause: Cause::Deadlock, .. }) => true,
-        (Kind::Stamp, Entry::Abort { cause: Cause::Late, .. }) => true,
-        (Kind::Valid, Entry::Abort { cause: Cause::Invalid, .. }) => true,
-        (Kind::Graph, Entry::Abort { cause: Cause::Cycle, .. }) => true,
+        (
+            Kind::Lock,
+            Entry::Abort {
+                cause: Cause::Deadlock,
+                ..
+            },
+        ) => true,
+        (
+            Kind::Stamp,
+            Entry::Abort {
+                cause: Cause::Late,
+                ..
+            },
+        ) => true,
+        (
+            Kind::Valid,
+            Entry::Abort {
+                cause: Cause::Invalid,
+                ..
+            },
+        ) => true,
+        (
+            Kind::Graph,
+            Entry::Abort {
+                cause: Cause::Cycle,
+                ..
+            },
+        ) => true,
         _ => false,
     }
 }
@@ -94,7 +118,9 @@ pub fn window(entries: &[Entry], ends: usize, last: u32) -> &[Entry]
 {
     let mut seen = entries;
     let mut left = ends;
-    while left > last as usize && let Some((entry, rest)) = seen.split_first() {
+    while left > last as usize
+        && let Some((entry, rest)) = seen.split_first()
+    {
         if is_end(entry) {
             left -= 1;
         }
