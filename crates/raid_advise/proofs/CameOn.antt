@@ -1,5 +1,5 @@
 -- The switches that came on in a legal history are the workload's first ones, in order.
-use Rattle.std.proofs.Common.{◌≡◌, ℕ, zero, suc, ◌+◌, ◌≤◌, Bool, true, false, not, ◌&&◌, nat_le, List, [], ◌∷◌, ◌++◌, length, fold, take, Option, Some, None, if◌then◌else◌, inl, inr, arith, refl, sym, ap, subst, ◌∙◌, add-one}
+use Rattle.std.proofs.Common.{◌≡◌, ℕ, zero, suc, ◌+◌, ◌≤◌, Bool, true, false, not, ◌&&◌, nat_le, List, [], ◌∷◌, ◌++◌, length, take, Option, Some, None, if◌then◌else◌, inl, inr, arith, refl, sym, ap, subst, ◌∙◌, add-one}
 use Rattle.std.specs.Prelude.{find, slice_get, option_and_then}
 use Rattle.std.proofs.lemmas.List.{take_all}
 use Rattle.std.proofs.lemmas.List.Sums.{sum_by-append, fold-append}
@@ -32,6 +32,7 @@ use Rattle.raid_legal.proofs.Push.{legal_push}
 use Rattle.raid_serial.proofs.Facts.{some_is, none_is, map_some, if_some, first_mapped, sort}
 use Rattle.raid_serial.proofs.Force.{in_force_push}
 use Rattle.raid_advise.specs.Added.{last_kind}
+use Rattle.raid_advise.proofs.Kept.{kind_from}
 use Rattle.raid_advise.specs.Advice.{came_on, kind_after, latest_kind}
 
 module _ (w : Workload) (p : List Noted) (k : ℕ) (to : Kind) (method : Method) where
@@ -84,10 +85,6 @@ take_next : {A : Type 0} (n : ℕ) (xs : List A) (x : A) → slice_get xs n ≡ 
 take_next n [] x e = absurd (none_is x e)
 take_next zero (y ∷ xs) x e = ap (λ z. z ∷ []) (some_is y x e)
 take_next (suc n) (y ∷ xs) x e = ap (λ zs. y ∷ zs) (take_next n xs x e)
-
--- the kind after some switches, and after one more
-abbrev kind_from : Kind → List Switch → Kind
-kind_from kind ss = fold (λ before (s : Switch). s.kind) kind ss
 
 -- as many switches are in force as came on, and the kind that came in last is that of the workload's switches so far
 pub record CameOn (w : Workload) (f : InForce) (many : ℕ) (kind : Kind) : Type 0 where

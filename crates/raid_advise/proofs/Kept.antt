@@ -11,10 +11,10 @@ use Rattle.raid_workload.specs.declared.workload.Event.{Event}
 use Rattle.raid_workload.specs.declared.workload.Homed.{Homed}
 use Rattle.raid_workload.specs.declared.workload.Workload.{Workload}
 use Rattle.raid_workload.specs.Rules.{is_within, is_kind, is_method_for, are_restarts, are_items, are_switches, are_events, is_homed, is_workload}
-use Rattle.raid_text.specs.Said.{said, are_kept}
+use Rattle.raid_text.specs.Said.{are_kept}
 use Rattle.raid_text.specs.Outcome.{Reads}
 use Rattle.raid_text.specs.Spelling.{print_of}
-use Rattle.raid_advise.specs.Added.{last_kind, last_trigger, may_be_added, with_switch}
+use Rattle.raid_advise.specs.Added.{last_kind, last_trigger, may_be_added, with_switch, ReadsWith}
 
 -- the last kind and the last trigger behind those given
 abbrev pub kind_from : Kind → List Switch → Kind
@@ -96,8 +96,9 @@ pub parts_kept : (w : Workload) (s : Switch) (items : List ItemLine) (switches :
 parts_kept w s items switches events programs m i ss e p = rw (i, ss, e, p) (with_kept w s m)
 
 -- the workload with the switch
-abbrev pub added : (w : Workload) (s : Switch) → may_be_added w s ≡ true → Workload
+abbrev added : (w : Workload) (s : Switch) → may_be_added w s ≡ true → Workload
 added w s m = record { version = w.version; restarts = w.restarts; sites = w.sites; together = w.together; items = w.items; kind = w.kind; structure = w.structure; switches = w.switches ++ s ∷ []; events = w.events; programs = w.programs; kept = with_kept w s m }
 
-pub added_reads : ((v : Workload) → Reads (print_of v) v) → (w : Workload) (s : Switch) → may_be_added w s ≡ true → (v : Workload) × (said v ≡ with_switch w s) × Reads (print_of v) v
+-- where what is written for a workload reads as it, so does what is written for this one
+pub added_reads : ((v : Workload) → Reads (print_of v) v) → (w : Workload) (s : Switch) → may_be_added w s ≡ true → ReadsWith w s
 added_reads print_reads w s m = (added w s m, refl, print_reads (added w s m))

@@ -1,10 +1,17 @@
 -- A workload with a switch added last.
-use Rattle.std.specs.Prelude.{ℕ, nat_lt, Bool, not, ◌&&◌, [], ◌∷◌, ◌++◌, length, fold}
+use Rattle.std.specs.Prelude.{◌≡◌, ℕ, nat_lt, Bool, not, ◌&&◌, [], ◌∷◌, ◌++◌, length, fold}
 use Rattle.raid_base.specs.declared.verdict.Kind.{Kind}
+use Rattle.raid_base.specs.declared.verdict.Method.{Method}
 use Rattle.raid_workload.specs.declared.workload.Switch.{Switch}
 use Rattle.raid_workload.specs.declared.workload.Workload.{Workload}
 use Rattle.raid_workload.specs.Rules.{is_kind, is_method_for, is_within}
+use Rattle.raid_text.specs.Outcome.{Reads}
 use Rattle.raid_text.specs.Said.{Said, said}
+use Rattle.raid_text.specs.Spelling.{print_of}
+
+-- the switch to the kind, by the method, after so many ends
+abbrev pub switch : Kind → Method → ℕ → Switch
+switch kind method after = record { kind = kind; method = method; trigger = after }
 
 -- the kind that the last switch is to, the opening kind where there is none
 abbrev pub last_kind : Workload → Kind
@@ -24,3 +31,7 @@ may_be_added w s =
 -- the parts of the workload, with the switch added last
 abbrev pub with_switch : Workload → Switch → Said
 with_switch w s = record (said w) { switches = w.switches ++ s ∷ [] }
+
+-- these parts are a workload, and what is written for it reads as it
+abbrev pub ReadsWith : Workload → Switch → Type 0
+ReadsWith w s = (v : Workload) × (said v ≡ with_switch w s) × Reads (print_of v) v

@@ -22,8 +22,8 @@ pub fn with(
     method: Method,
     after: u32,
 ) -> Result<Workload, NoMemory>
-    requires { IsTrue (words.may_be_added workload.now (record { kind = kind; method = method; trigger = after })) }
-    ensures { IfOk result (λ v. said v ≡ words.with_switch workload.now (record { kind = kind; method = method; trigger = after })) }
+    requires { IsTrue (words.may_be_added workload.now (words.switch kind method after)) }
+    ensures { IfOk result (λ v. said v ≡ words.with_switch workload.now (words.switch kind method after)) }
 {
     let mut switches = workload.switches.copy(alloc)?;
     switches.push(Switch {
@@ -51,7 +51,7 @@ pub fn with(
 /// Whether the switch may be added last: the workload has fewer than 64; the kind isn't the one that they
 /// lead to; the method is for the structure; and `after` is at least the last trigger and at most 2,000.
 pub fn may_be_added(workload: &Workload, kind: Kind, method: Method, after: u32) -> bool
-    ensures { result ≡ words.may_be_added workload.now (record { kind = kind; method = method; trigger = after }) }
+    ensures { result ≡ words.may_be_added workload.now (words.switch kind method after) }
 {
     workload.switches.len() < MOST_SWITCHES
         && kind != last_kind(workload)

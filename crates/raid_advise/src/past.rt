@@ -1,7 +1,7 @@
 //! What entries show.
 
-ghost use Rattle.std.specs.Prelude.{◌≡◌, ◌≤◌, length};
-ghost use Rattle.raid_rules.specs.Entries.{is_end};
+ghost use Rattle.std.specs.Prelude.{◌≡◌, ◌≤◌, true, length};
+ghost use Rattle.raid_rules.specs.Entries.{is_commit, is_end};
 ghost use Rattle.raid_advise.specs.Advice as words;
 
 use raid_base::{Cause, Entry, Kind};
@@ -52,7 +52,7 @@ fn is_end(entry: &Entry) -> bool
 
 /// Whether the entry is a Commit.
 fn is_commit(entry: &Entry) -> bool
-    ensures { result ≡ words.is_any_commit entry.now }
+    ensures { result ≡ is_commit (λ t request. true) entry.now }
 {
     matches!(entry, Entry::Commit { .. })
 }
