@@ -32,6 +32,10 @@ may_be_added w s =
 abbrev pub with_switch : Workload → Switch → Said
 with_switch w s = record (said w) { switches = w.switches ++ s ∷ [] }
 
--- these parts are a workload, and what is written for it reads as it
+-- the second workload is the first one with the switch added last
+abbrev pub AddsSwitch : Workload → Switch → Workload → Type 0
+AddsSwitch w s v = said v ≡ with_switch w s
+
+-- there is such a workload, and what is written for it reads as it
 abbrev pub ReadsWith : Workload → Switch → Type 0
-ReadsWith w s = (v : Workload) × (said v ≡ with_switch w s) × Reads (print_of v) v
+ReadsWith w s = (v : Workload) × AddsSwitch w s v × Reads (print_of v) v

@@ -2,6 +2,7 @@
 use Rattle.std.specs.Prelude.{◌≡◌, ℕ, ◌*◌, ◌==◌, min, max, nat_lt, nat_le, Bool, true, false, ◌&&◌, ◌||◌, List, [], ◌∷◌, length, fold, count_by, Option, Some, None, if◌then◌else◌}
 use Rattle.raid_base.specs.declared.entry.Entry.{Entry}
 use Rattle.raid_base.specs.declared.entry.Entry.TheVariants.{Wait, Abort, SwitchOn}
+use Rattle.raid_base.specs.declared.entry.Cause.{Cause}
 use Rattle.raid_base.specs.declared.entry.Cause.TheVariants.{Late, Invalid, Cycle, Deadlock}
 use Rattle.raid_base.specs.declared.verdict.Kind.{Kind}
 use Rattle.raid_base.specs.declared.verdict.Kind.TheVariants.{Lock, Stamp, Valid, Graph}
@@ -42,13 +43,18 @@ kind_after kind other = kind
 abbrev pub latest_kind : Kind → List Entry → Kind
 latest_kind opening h = fold kind_after opening h
 
--- the entry shows what the kind costs: under locks a Wait, or an Abort that broke a cycle of waits; else an Abort by the kind's refusal
+-- an abort with this cause is the kind's doing: its refusal, or under locks that a cycle of waits was broken
+abbrev pub is_blamed : Kind → Cause → Bool
+is_blamed Lock Deadlock = true
+is_blamed Stamp Late = true
+is_blamed Valid Invalid = true
+is_blamed Graph Cycle = true
+is_blamed kind other = false
+
+-- the entry shows what the kind costs: an Abort of its doing, or under locks a Wait
 abbrev pub is_cost : Kind → Entry → Bool
+is_cost kind (Abort t cause act) = is_blamed kind cause
 is_cost Lock (Wait t request) = true
-is_cost Lock (Abort t Deadlock act) = true
-is_cost Stamp (Abort t Late act) = true
-is_cost Valid (Abort t Invalid act) = true
-is_cost Graph (Abort t Cycle act) = true
 is_cost kind other = false
 
 -- how many entries show it

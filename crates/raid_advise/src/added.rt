@@ -1,7 +1,8 @@
+//! Workloads with a switch added last.
+
 ghost use Rattle.std.specs.Prelude.{◌≡◌, IsTrue, IfOk};
 ghost use Rattle.raid_workload.specs.Rules.{is_method_for};
 ghost use Rattle.raid_advise.specs.Added as words;
-ghost use Rattle.raid_text.specs.Said.{said};
 
 use raid_base::{Duplicate, Kind, Method, NoMemory, Structure};
 use raid_workload::{Switch, Workload};
@@ -23,7 +24,7 @@ pub fn with(
     after: u32,
 ) -> Result<Workload, NoMemory>
     requires { IsTrue (words.may_be_added workload.now (words.switch kind method after)) }
-    ensures { IfOk result (λ v. said v ≡ words.with_switch workload.now (words.switch kind method after)) }
+    ensures { IfOk result (words.AddsSwitch workload.now (words.switch kind method after)) }
 {
     let mut switches = workload.switches.copy(alloc)?;
     switches.push(Switch {

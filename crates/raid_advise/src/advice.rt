@@ -1,3 +1,5 @@
+//! Advice: the switch that a history speaks for.
+
 ghost use Rattle.std.specs.Prelude.{◌≡◌, ◌*◌, ◌<◌, ◌^◌, Ok};
 ghost use Rattle.raid_advise.specs.Advice as words;
 
@@ -21,7 +23,7 @@ pub enum Advice {
 }
 
 /// What a history of the workload speaks for, by its entries with the last so many ends, `last`. It takes no
-/// memory, so it is never refused any.
+/// memory today, so it answers without fail.
 pub fn advise(
     _alloc: Global,
     workload: &Workload,

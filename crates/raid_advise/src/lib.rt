@@ -4,10 +4,11 @@
 //! advised switch keeps every rule of a workload.
 #![tactic(auto)]
 
-pub mod added;
-pub mod advice;
-pub mod laws;
+mod added;
+mod advice;
+mod laws;
 mod past;
 
 pub use added::{may_be_added, with};
 pub use advice::{Advice, advise};
+pub use laws::advised_switches_may_be_added;

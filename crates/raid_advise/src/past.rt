@@ -57,42 +57,28 @@ fn is_commit(entry: &Entry) -> bool
     matches!(entry, Entry::Commit { .. })
 }
 
-/// Whether the entry shows what the kind costs: a transaction that it held up, or that it refused.
+/// Whether the entry shows what the kind costs: a transaction that it held up, or that it aborted.
 fn is_cost(kind: Kind, entry: &Entry) -> bool
     ensures { result ≡ words.is_cost kind entry.now }
 {
-    match (kind, entry) {
-        (Kind::Lock, Entry::Wait { .. }) => true,
-        (
-            Kind::Lock,
-            Entry::Abort {
-                cause: Cause::Deadlock,
-                ..
-            },
-        ) => true,
-        (
-            Kind::Stamp,
-            Entry::Abort {
-                cause: Cause::Late,
-                ..
-            },
-        ) => true,
-        (
-            Kind::Valid,
-            Entry::Abort {
-                cause: Cause::Invalid,
-                ..
-            },
-        ) => true,
-        (
-            Kind::Graph,
-            Entry::Abort {
-                cause: Cause::Cycle,
-                ..
-            },
-        ) => true,
+    match entry {
+        Entry::Abort { cause, .. } => is_blamed(kind, *cause),
+        Entry::Wait { .. } => matches!(kind, Kind::Lock),
         _ => false,
     }
+}
+
+/// Whether an abort with this cause is the kind's doing.
+fn is_blamed(kind: Kind, cause: Cause) -> bool
+    ensures { result ≡ words.is_blamed kind cause }
+{
+    matches!(
+        (kind, cause),
+        (Kind::Lock, Cause::Deadlock)
+            | (Kind::Stamp, Cause::Late)
+            | (Kind::Valid, Cause::Invalid)
+            | (Kind::Graph, Cause::Cycle)
+    )
 }
 
 /// How many Commits there are.
