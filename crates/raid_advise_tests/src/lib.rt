@@ -63,7 +63,14 @@ mod tests {
 
     #[test]
     fn locks_that_hold_nobody_up_give_way_to_validation(rt: HostRuntime) {
-        assert!(rt; advice(rt.alloc(), ADDS, ADDED, 5) == Some(Advice::Switch { kind: Kind::Valid, method: Method::Suffix, after: 1 }));
+        assert!(rt;
+            advice(rt.alloc(), ADDS, ADDED, 5)
+                == Some(Advice::Switch {
+                    kind: Kind::Valid,
+                    method: Method::Suffix,
+                    after: 1
+                })
+        );
     }
 
     #[test]
@@ -75,8 +82,22 @@ mod tests {
 
     #[test]
     fn only_the_last_ends_count(rt: HostRuntime) {
-        assert!(rt; advice(rt.alloc(), BOTH, HELD_UP, 2) == Some(Advice::Switch { kind: Kind::Stamp, method: Method::Suffix, after: 2 }));
-        assert!(rt; advice(rt.alloc(), BOTH, HELD_UP, 1) == Some(Advice::Switch { kind: Kind::Valid, method: Method::Suffix, after: 2 }));
+        assert!(rt;
+            advice(rt.alloc(), BOTH, HELD_UP, 2)
+                == Some(Advice::Switch {
+                    kind: Kind::Stamp,
+                    method: Method::Suffix,
+                    after: 2
+                })
+        );
+        assert!(rt;
+            advice(rt.alloc(), BOTH, HELD_UP, 1)
+                == Some(Advice::Switch {
+                    kind: Kind::Valid,
+                    method: Method::Suffix,
+                    after: 2
+                })
+        );
     }
 
     #[test]
