@@ -1,0 +1,4 @@
+mod CameOn
+mod Fits
+mod Kept
+mod Windows
