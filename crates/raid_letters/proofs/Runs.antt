@@ -41,24 +41,24 @@ use Rattle.raid_letters.proofs.Turns.{IsFresh, IsBehind, ArePaired, before_fresh
 use Rattle.raid_letters.proofs.Waits.{WaitSays, IsAsked, later_wait, waiting_says, down_waits, site_waits}
 
 -- what holds at each place still does where another element is put
-set_at : {X : Type 0} (P : ℕ → X → Type 0) (xs : List X) (k : ℕ) (y d : X) → ((j : ℕ) → P j (slice_index_or xs j d)) → P k y → (j : ℕ) → P j (slice_index_or (slice_set xs k y) j d)
+pub set_at : {X : Type 0} (P : ℕ → X → Type 0) (xs : List X) (k : ℕ) (y d : X) → ((j : ℕ) → P j (slice_index_or xs j d)) → P k y → (j : ℕ) → P j (slice_index_or (slice_set xs k y) j d)
 set_at P [] k y d all h j = all j
 set_at P (x ∷ xs) zero y d all h zero = h
 set_at P (x ∷ xs) zero y d all h (suc j) = all (suc j)
 set_at P (x ∷ xs) (suc k) y d all h zero = all zero
 set_at P (x ∷ xs) (suc k) y d all h (suc j) = set_at (λ i. P (suc i)) xs k y d (λ i. all (suc i)) h j
 
-all_at : {X : Type 0} (P : X → Type 0) (xs : List X) (k : ℕ) (d : X) → AllByRecursion P xs → P d → P (slice_index_or xs k d)
+pub all_at : {X : Type 0} (P : X → Type 0) (xs : List X) (k : ℕ) (d : X) → AllByRecursion P xs → P d → P (slice_index_or xs k d)
 all_at P [] k d a h = h
 all_at P (x ∷ xs) zero d a h = a.0
 all_at P (x ∷ xs) (suc k) d a h = all_at P xs k d a.1 h
 
-all_empty : {X : Type 0} (P : X → Type 0) (n : ℕ) (x : X) → P x → AllByRecursion P (replicate n x)
+pub all_empty : {X : Type 0} (P : X → Type 0) (n : ℕ) (x : X) → P x → AllByRecursion P (replicate n x)
 all_empty P zero x h = tt
 all_empty P (suc n) x h = (h, all_empty P n x h)
 
 -- the monitor asks for no read
-abbrev IsOrder : Message → Type 0
+abbrev pub IsOrder : Message → Type 0
 IsOrder (letters.ReadAsk t ask x) = ⊥
 IsOrder other = ⊤
 
@@ -76,17 +76,17 @@ first_or false false true false q = absurd (true≢false (sym q))
 first_or false false false d q = absurd (true≢false (sym q))
 
 -- what holds of each link still does where one is set
-set_all : (P : ℕ → ℕ → List Letter → Type 0) (links : List (List (List Letter))) (a b : ℕ) (queue : List Letter) → ((server from : ℕ) → P server from (link links server from)) → P a b queue →
+pub set_all : (P : ℕ → ℕ → List Letter → Type 0) (links : List (List (List Letter))) (a b : ℕ) (queue : List Letter) → ((server from : ℕ) → P server from (link links server from)) → P a b queue →
     (server from : ℕ) → P server from (link (set_link links a b queue) server from)
 set_all P links a b queue h q =
     set_at (λ server row. (from : ℕ) → P server from (slice_index_or row from [])) links a (slice_set (slice_index_or links a []) b queue) [] h
     (set_at (λ from queue. P a from queue) (slice_index_or links a []) b queue [] (h a) q)
 
 -- the sequencer's letters stand in turn on each link
-abbrev TurnsAt : ℕ → ℕ → List Letter → Type 0
+abbrev pub TurnsAt : ℕ → ℕ → List Letter → Type 0
 TurnsAt server from queue = from ≡ 1 → AreInTurn queue
 
-abbrev LinksTurn : List (List (List Letter)) → Type 0
+abbrev pub LinksTurn : List (List (List Letter)) → Type 0
 LinksTurn links = (server from : ℕ) → TurnsAt server from (link links server from)
 
 -- others send nothing there
@@ -123,7 +123,7 @@ posts_turn clock (x ∷ outs) links a h =
 
 module _ (w : Workload) where
   -- a letter on the link to a server from another
-  abbrev LetterSays : List Noted → ℕ → ℕ → Letter → Type 0
+  abbrev pub LetterSays : List Noted → ℕ → ℕ → Letter → Type 0
   LetterSays p server zero l = IsOrder l.message
   LetterSays p server (suc zero) l = NoteSays w p (site (server - 1)) l.to l.message
   LetterSays p server (suc (suc j)) l = AskSays w p (site (j + 1)) l.message × PeerSays w p (site (server - 1)) (site (j + 1)) l.from l.message
@@ -133,10 +133,10 @@ module _ (w : Workload) where
   later_letter p q later server (suc zero) l r = later_note w p q later (site (server - 1)) l.to l.message r
   later_letter p q later server (suc (suc j)) l r = (later_ask w p q later (site (j + 1)) l.message r.0, later_peer w p q later (site (server - 1)) (site (j + 1)) l.from l.message r.1)
 
-  abbrev QueueSays : List Noted → ℕ → ℕ → List Letter → Type 0
+  abbrev pub QueueSays : List Noted → ℕ → ℕ → List Letter → Type 0
   QueueSays p server from queue = AllByRecursion (LetterSays p server from) queue
 
-  abbrev LinksSay : List Noted → List (List (List Letter)) → Type 0
+  abbrev pub LinksSay : List Noted → List (List (List Letter)) → Type 0
   LinksSay p links = (server from : ℕ) → QueueSays p server from (link links server from)
 
   set_says : (p : List Noted) (links : List (List (List Letter))) (a b : ℕ) (queue : List Letter) → LinksSay p links → QueueSays p a b queue → LinksSay p (set_link links a b queue)
@@ -174,12 +174,12 @@ module _ (w : Workload) where
   both_say p session clock [] a b = tt
   both_say p session clock (out ∷ outs) a b = (joined p (site (out.0 - 1)) out.1 out.2 a.0 b.0, both_say p session clock outs a.1 b.1)
 
-  record WorldSays (s : World) : Type 0 where
-    reached : sessions.Reached w s
-    homes : Homes w s.servers s.links
-    says : LinksSay (noted s.servers.sequencer.history) s.links
-    turns : LinksTurn s.links
-    waits : AllByRecursion (WaitSays w (noted s.servers.sequencer.history)) s.servers.sequencer.history
+  pub record WorldSays (s : World) : Type 0 where
+    pub reached : sessions.Reached w s
+    pub homes : Homes w s.servers s.links
+    pub says : LinksSay (noted s.servers.sequencer.history) s.links
+    pub turns : LinksTurn s.links
+    pub waits : AllByRecursion (WaitSays w (noted s.servers.sequencer.history)) s.servers.sequencer.history
 
   module _ (s : World) (r : WorldSays s) where
     abbrev told : List Noted
@@ -372,7 +372,7 @@ module _ (w : Workload) where
       all_at AreInTurn (slice_index_or (open_world w).links server []) from []
       (all_at (AllByRecursion AreInTurn) (open_world w).links server [] (all_empty AreInTurn (w.sites + 2) [] tt, (all_empty AreInTurn (w.sites + 2) [] tt, rows_turn (sites w))) tt) tt
 
-  reaches : (schedule : List Pick) → WorldSays (run w schedule)
+  pub reaches : (schedule : List Pick) → WorldSays (run w schedule)
   reaches schedule = picks_say (open_world w) schedule (record { reached = sessions.open_reached w; homes = asks.open_home w; says = open_says; turns = open_turns; waits = tt })
 
   pub runs_say : (schedule : List Pick) → LettersSay w (run w schedule)

@@ -1,0 +1,2 @@
+//! That programs ask one thing at a time, in every run.
+#![tactic(auto)]
