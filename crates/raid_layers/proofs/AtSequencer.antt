@@ -144,13 +144,35 @@ module _ (w : Workload) (from clock : ℕ) (letter : Letter) where
       go (asks_not n) e = not_asked n e does
       go (asks_it h) e = answered e
 
+  module _ (t : Txn) (k m : ℕ) (p b q : List Noted) (outs later : List Out) (starts : Starts p b outs) (settled : Settled w from letter b q later) where
+    grows : Grows p q
+    grows test h = settled.grows test (starts.grows test h)
+
+    -- one ask
+    pub one_after : (asks rest : List Message) → ((x : Message) (xs : List Message) → asks ≡ x ∷ xs → Does t k m p b outs) → Taken t k asks rest → (has_ended p t ≡ true) ⊎ IsOneAsk p t asks → (has_ended q t ≡ true) ⊎ IsOneAsk q t rest
+    one_after asks rest does taken_so (inl over) = inl (grows (λ n. is_end_of t n.entry) over)
+    one_after asks rest does taken_so (inr (no_ask e)) = inr (no_ask (none taken_so))
+      where
+        none : Taken t k asks rest → rest ≡ []
+        none (left n same) = same ∙ e
+        none (took of is) = tail (ask_of t letter.message) (sym is ∙ e)
+          where
+            tail : (xs : List Message) → xs ++ rest ≡ [] → rest ≡ []
+            tail [] q = q
+            tail (x ∷ xs) q = absurd (cc q)
+    one_after asks rest does taken_so (inr (one_ask message e timely)) = inr (go (gone t k m p b outs asks rest (does message [] e) taken_so))
+      where
+        go : Gone t k m p b outs asks rest → IsOneAsk q t rest
+        go (kept same still mute) = one_ask message (same ∙ e) (still_timely t p q grows (quiet_on t p b q still (settled.quiet t)) message timely)
+        go (answered is) = no_ask (cc (is, e))
+
   -- the step, for one transaction
   module _ (t : Txn) (k m : ℕ) (p b q : List Noted) (outs later : List Out) (links after : List (List (List Letter))) (numbered : AllByRecursion (λ (n : Noted). n.at ≤ length p) p)
       (starts : Starts p b outs) (settled : Settled w from letter b q later)
       (tokens : (P : Claim) → SentHolds t k m P 1 (outs ++ later) → AllTokens links t k m P → AllTokens after t k m P)
       (notes : link after (k + 2) 1 ≡ link links (k + 2) 1 ++ letters_to (k + 2) 0 clock (outs ++ later)) where
-    grows : Grows p q
-    grows test h = settled.grows test (starts.grows test h)
+    further : Grows p q
+    further test h = settled.grows test (starts.grows test h)
 
     -- a transaction that isn't over now wasn't before
     open_in : (r : List Noted) → Grows r q → has_ended q t ≡ false → (c : Bool) → has_ended r t ≡ c → c ≡ false
@@ -185,7 +207,7 @@ module _ (w : Workload) (from clock : ℕ) (letter : Letter) where
         waits_on ask x o (dropped e none h) = dropped (same ∙ e) none (moved (IsBelow ask) h)
         waits_on ask x o (read n s e last is has h server falls) =
             read n s (same ∙ e) (whole.last ∙ last) is (whole.reads x ∙ has) (moved (IsOfRead ask x s) h) server
-            (falls_after ask s n.at (is_some o) p (grows (λ z. nat_lt n.at z.at && is_down (is_site s) z.entry)) (let low = last_within (length p) t p numbered n last in let long = starts.long in omega (arith, low, long)) falls)
+            (falls_after ask s n.at (is_some o) p (further (λ z. nat_lt n.at z.at && is_down (is_site s) z.entry)) (let low = last_within (length p) t p numbered n last in let long = starts.long in omega (arith, low, long)) falls)
 
         about_on : (phase : Phase) → IsAbout p links k m t number answers asks phase → IsAbout q after k m t number answers rest phase
         about_on (asking ask x o) a = (a.0, (whole.waits ∙ a.1.0, ((λ y d. a.1.1.0 y d ∙ sym (whole.reads y)), waits_on ask x o a.1.1.1)))
@@ -210,7 +232,7 @@ module _ (w : Workload) (from clock : ℕ) (letter : Letter) where
             read n s none ((settled.quiet t).last ∙ ap (λ r. last_read r t) is ∙ read_push p n t ∙ ap (λ c. if c then Some n else last_read p t) (same_self t.0)) refl
             (settled.grows (λ z. reads_item t x z.entry) (subst (λ r. has_read r t x ≡ true) (sym is) (any_last (λ z. reads_item t x z.entry) p n (and_from (is_txn t t) (is_item x x) (same_self t.0) (same_self x.0)))))
             (tokens (IsOfRead ask x s) (all_hold (IsOfRead ask x s) holds) (all_weaker t k m links (IsBelow ask) (IsOfRead ask x s) (λ a token low. (omega (arith, low), λ e. absurd (omega (arith, low, e)))) h)) tt
-            (falls_after ask s n.at false p (grows (λ z. nat_lt n.at z.at && is_down (is_site s) z.entry)) (let l = ap length is ∙ length-append p (n ∷ []) in omega (arith, l)) (no_falls t k m p ask s n.at (link links (k + 2) 1) (h (k + 2) 1)))
+            (falls_after ask s n.at false p (further (λ z. nat_lt n.at z.at && is_down (is_site s) z.entry)) (let l = ap length is ∙ length-append p (n ∷ []) in omega (arith, l)) (no_falls t k m p ask s n.at (link links (k + 2) 1) (h (k + 2) 1)))
           where
             n : Noted
             n = next p (Read t x s)
@@ -300,26 +322,8 @@ module _ (w : Workload) (from clock : ℕ) (letter : Letter) where
           no_commit (dropped e none h) request f = cc (e, f)
           no_commit (read n s e last is has h server falls) request f = cc (e, f)
 
-    -- one ask
-    pub one_after : (asks rest : List Message) → ((x : Message) (xs : List Message) → asks ≡ x ∷ xs → Does t k m p b outs) → Taken t k asks rest → (has_ended p t ≡ true) ⊎ IsOneAsk p t asks → (has_ended q t ≡ true) ⊎ IsOneAsk q t rest
-    one_after asks rest does taken_so (inl over) = inl (grows (λ n. is_end_of t n.entry) over)
-    one_after asks rest does taken_so (inr (no_ask e)) = inr (no_ask (none taken_so))
-      where
-        none : Taken t k asks rest → rest ≡ []
-        none (left n same) = same ∙ e
-        none (took of is) = tail (ask_of t letter.message) (sym is ∙ e)
-          where
-            tail : (xs : List Message) → xs ++ rest ≡ [] → rest ≡ []
-            tail [] q = q
-            tail (x ∷ xs) q = absurd (cc q)
-    one_after asks rest does taken_so (inr (one_ask message e timely)) = inr (go (gone t k m p b outs asks rest (does message [] e) taken_so))
-      where
-        go : Gone t k m p b outs asks rest → IsOneAsk q t rest
-        go (kept same still mute) = one_ask message (same ∙ e) (still_timely t p q grows (quiet_on t p b q still (settled.quiet t)) message timely)
-        go (answered is) = no_ask (cc (is, e))
-
     pub talks_none : (asks rest : List Message) → Taken t k asks rest → Talks p links k m t asks None → Talks q after k m t rest None
-    talks_none asks rest taken_so (inl over) = inl (grows (λ n. is_end_of t n.entry) over)
+    talks_none asks rest taken_so (inl over) = inl (further (λ n. is_end_of t n.entry) over)
     talks_none asks rest taken_so (inr e) = inr (none taken_so)
       where
         none : Taken t k asks rest → rest ≡ []
@@ -332,7 +336,7 @@ module _ (w : Workload) (from clock : ℕ) (letter : Letter) where
 
     pub talks_some : (asks rest : List Message) → ComesHome t k → Does t k m p b outs → Taken t k asks rest → (r : Running) → Talks p links k m t asks (Some r) → Talks q after k m t rest (Some r)
     talks_some asks rest comes does taken_so r a = (commits, elim a.1 [
-      | inl over ↦ inl (grows (λ n. is_end_of t n.entry) over)
+      | inl over ↦ inl (further (λ n. is_end_of t n.entry) over)
       | inr about ↦ inr (about_after asks rest r.asks r.answers does taken_so r.phase about)
     ])
       where
