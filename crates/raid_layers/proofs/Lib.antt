@@ -6,3 +6,4 @@ pub mod Settled
 pub mod SiteTokens
 pub mod Tokens
 pub mod Turns
+pub mod Worlds
