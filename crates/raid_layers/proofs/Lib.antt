@@ -4,6 +4,7 @@ pub mod Histories
 pub mod Opening
 pub mod Settled
 pub mod SiteTokens
+pub mod SiteWorlds
 pub mod Tokens
 pub mod Turns
 pub mod Worlds

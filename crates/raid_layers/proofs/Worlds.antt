@@ -118,7 +118,7 @@ module _ (w : Workload) where
     room k state at = (let b = below k state at in omega (arith, b))
 
     -- programs where nothing changes but what is on its way
-    moves_only : (after : List (List (List Letter))) (k : ℕ) (state : SiteState) → link after 1 (k + 2) ≡ link links 1 (k + 2) → ((t : Txn) (P : Claim) → IsClosed P → AllTokens links t k state.session P → AllTokens after t k state.session P) →
+    pub moves_only : (after : List (List (List Letter))) (k : ℕ) (state : SiteState) → link after 1 (k + 2) ≡ link links 1 (k + 2) → ((t : Txn) (P : Claim) → IsClosed P → AllTokens links t k state.session P → AllTokens after t k state.session P) →
         ((t : Txn) (ask : ℕ) (x : Site) (at : ℕ) (b : Bool) → FallsLater p t state.session ask x at b (link links (k + 2) 1) → FallsLater p t state.session ask x at b (link after (k + 2) 1)) → TalksAt p links k state → TalksAt p after k state
     moves_only after k state same tokens falls talks up last t =
         subst (λ ls. Talks p after k state.session t (asks_of t ls) (running_of state t)) (sym same) (talks_so p links after k state.session t (tokens t) (falls t) (asks_of t (link links 1 (k + 2))) (running_of state t) (talks up last t))
