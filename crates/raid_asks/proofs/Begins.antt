@@ -81,7 +81,7 @@ module _ (w : Workload) where
   hear_waits s links (suc (suc k)) from clock l rest front holds homes waits =
       waits_at s links k from clock l rest (from_below (w.sites + 2) links (suc (suc k)) from l rest holds.square front) front holds homes waits (slice_get s.sites k) refl (server_below (w.sites + 2) links (suc (suc k)) from l rest holds.square front)
 
-  abbrev All : World → Type 0
+  abbrev pub All : World → Type 0
   All s = sessions.Reached w s × (Homes w s.servers s.links × Waits w s.servers s.links)
 
   front_all : (s : World) (server from : ℕ) (queue : List Letter) → link s.links server from ≡ queue → All s → All (take_front w s server from queue)
@@ -113,7 +113,7 @@ module _ (w : Workload) where
       server : (k : ℕ) → k + 2 ≡ suc (suc k)
       server k = omega arith
 
-  reached_all : (schedule : List Pick) → All (run w schedule)
+  pub reached_all : (schedule : List Pick) → All (run w schedule)
   reached_all schedule = picks_all (open_world w) schedule (sessions.open_reached w, (open_home w, open_waits))
 
   pub run_begun : (schedule : List Pick) (k : ℕ) (s : SiteState) → slice_get (run w schedule).servers.sites k ≡ Some s → HaveBegun (run w schedule) k s

@@ -1,7 +1,9 @@
 pub mod AtSequencer
 pub mod AtSite
 pub mod Histories
+pub mod Laws
 pub mod Opening
+pub mod Runs
 pub mod Settled
 pub mod SiteTokens
 pub mod SiteWorlds
