@@ -1,8 +1,8 @@
 -- The sequencer's step keeps what programs are about.
-use Rattle.std.proofs.Common.{◌≡◌, ◌≢◌, ◌⊎◌, inl, inr, ℕ, ℤ, zero, suc, ◌+◌, ◌<◌, ◌≤◌, ◌==◌, nat_lt, Bool, true, false, not, ◌&&◌, ◌||◌, List, [], ◌∷◌, ◌++◌, length, length-append, Option, Some, None, if◌then◌else◌, arith, sym, subst, ap, ◌∙◌, refl, append-nil, append_assoc}
+use Rattle.std.proofs.Common.{◌≡◌, ◌⊎◌, inl, inr, ℕ, ℤ, ◌+◌, ◌≤◌, ◌==◌, nat_lt, Bool, true, false, ◌&&◌, List, [], ◌∷◌, ◌++◌, length, length-append, Option, Some, None, if◌then◌else◌, arith, sym, subst, ap, ◌∙◌, refl, append-nil}
 use Rattle.std.specs.Prelude.{⊤, is_some}
-use Rattle.std.specs.List.{AllByRecursion, list_any}
-use Rattle.std.proofs.lemmas.Bool.{and_parts, and_from, eqb-true, true≢false}
+use Rattle.std.specs.List.{AllByRecursion}
+use Rattle.std.proofs.lemmas.Bool.{and_from, true≢false}
 use Rattle.raid_base.specs.declared.names.Txn.{Txn}
 use Rattle.raid_base.specs.declared.names.Item.{Item}
 use Rattle.raid_base.specs.declared.names.Site.{Site}
@@ -11,10 +11,10 @@ use Rattle.raid_base.specs.declared.entry.Entry.{Entry}
 use Rattle.raid_base.specs.declared.entry.Entry.TheVariants.{Read, Wait}
 use Rattle.raid_base.specs.declared.entry.Noted.{Noted}
 use Rattle.raid_base.specs.Names.{is_txn, is_item, is_site}
-use Rattle.raid_base.specs.Sites.{session, site}
+use Rattle.raid_base.specs.Sites.{session}
 use Rattle.raid_workload.specs.declared.workload.Workload.{Workload}
 use Rattle.raid_workload.specs.Parts.{home}
-use Rattle.raid_rules.specs.Entries.{is_read, is_commit_of, is_end_of, is_down, reads_item}
+use Rattle.raid_rules.specs.Entries.{is_commit_of, is_end_of, is_down, reads_item}
 use Rattle.raid_rules.specs.History.{noted, add, next, has_committed, has_ended}
 use Rattle.raid_rules.proofs.Push.{noted_push, same_txn}
 use Rattle.raid_legal.specs.Seen.{vector, has_down_after}
@@ -23,15 +23,15 @@ use Rattle.raid_message.specs.declared.letter.Message.{Message}
 use Rattle.raid_message.specs.declared.letter.Message.TheVariants as letters
 use Rattle.raid_message.specs.declared.letter.Letter.{Letter}
 use Rattle.raid_steps.specs.State.{Out, Turn, Sequencer, to_site, Phase, asking, preparing, sent, Running}
-use Rattle.raid_steps.specs.Sequencer.{so_far, place}
+use Rattle.raid_steps.specs.Sequencer.{so_far}
 use Rattle.raid_steps.specs.World.{link}
 use Rattle.raid_sessions.proofs.Lists.{all_append, all_weaken, same_self}
 use Rattle.raid_sessions.proofs.Mail.{letter_of, letters_to}
 use Rattle.raid_asks.proofs.Notes.{all_sent}
-use Rattle.raid_layers.specs.Asks.{has_read, is_wait_of, has_waited, AreRead, AreReadBut, ask_of, IsTimely, IsOneAsk, no_ask, one_ask, Token, reading, bringing, serving, Claim, HoldsOf, AllTokens, IsBelow, IsAtMost, IsFor, IsOfRead, FallsLater, IsServer, Outstanding, asked, dropped, read, asks_end, Closing, taken, closes, IsAbout, Talks}
-use Rattle.raid_layers.proofs.Histories.{Grows, IsQuiet, quiet_same, quiet_on, quiet_push, any_push, any_same, any_last, any_kept, read_push, still_timely, last_within}
+use Rattle.raid_layers.specs.Asks.{has_read, is_wait_of, has_waited, AreReadBut, ask_of, IsOneAsk, no_ask, one_ask, Claim, HoldsOf, AllTokens, IsBelow, IsAtMost, IsOfRead, FallsLater, Outstanding, asked, dropped, read, asks_end, Closing, taken, closes, IsAbout, Talks}
+use Rattle.raid_layers.proofs.Histories.{Grows, IsQuiet, quiet_same, quiet_on, quiet_push, any_same, any_last, any_kept, read_push, still_timely, last_within}
 use Rattle.raid_layers.proofs.Opening.{IsAsked, First, reads, waits, nothing}
-use Rattle.raid_layers.proofs.Settled.{IsCalm, AreCalm, calm_holds, Committed, Settled}
+use Rattle.raid_layers.proofs.Settled.{IsCalm, calm_holds, Settled}
 use Rattle.raid_layers.proofs.Tokens.{SentHolds, all_weaker, no_falls, falls_on, Fell, IsAskOf, AsksFor, asks_not, asks_it, asks_for}
 
 module _ (w : Workload) (from clock : ℕ) (letter : Letter) where
@@ -265,8 +265,7 @@ module _ (w : Workload) (from clock : ℕ) (letter : Letter) where
                 let numbers : ask_too ≡ ask = cc same in
                 let items : x_too ≡ x = cc same in
                 let placed : b ≡ add p (Read t x s) = at ∙ ap (λ z. add p (Read t z s)) items in
-                let sent_so : SentHolds t k m (IsOfRead ask x s) 1 outs = subst (λ z. SentHolds t k m (IsOfRead ask z s) 1 outs) items (subst (λ z. SentHolds t k m (IsOfRead z x_too s) 1 outs) numbers holds) in
-                (
+                let sent_so : SentHolds t k m (IsOfRead ask x s) 1 outs = subst (λ z. SentHolds t k m (IsOfRead ask z s) 1 outs) items (subst (λ z. SentHolds t k m (IsOfRead z x_too s) 1 outs) numbers holds) in (
                   (settled.quiet t).waits ∙ ap (λ r. has_waited r t) placed ∙ any_same (λ z. is_wait_of t z.entry) p (next p (Read t x s)) refl ∙ unwaited,
                   (
                     (λ y d. but y d ∙ sym (but_for x s placed y d) ∙ sym ((settled.quiet t).reads y)),
@@ -300,7 +299,7 @@ module _ (w : Workload) (from clock : ℕ) (letter : Letter) where
           go (answered e) = about_answered e does phase a
 
       no_end : ComesHome t k → Does t k m p b outs → Taken t k asks rest → ((request : Request) → asks ≡ letters.CommitAsk t request ∷ rest → ⊥) → has_waited p t ≡ false → (has_waited b t ≡ true) ⊎ IsAsked w from letter t → ⊥
-      no_end comes does taken_so never unwaited why = elim why [ | inl waited ↦ now waited does | inr (j, (of, (request, is))) ↦ asks_it_now request (let here : j ≡ k = comes j of (subst (IsAskOf t) (sym is) (same_self t.0)) in of ∙ ap (λ n. n + 2) here) is taken_so ]
+      no_end comes does taken_so never unwaited why = elim why [ inl waited ↦ now waited does | inr (j, (of, (request, is))) ↦ asks_it_now request (let here : j ≡ k = comes j of (subst (IsAskOf t) (sym is) (same_self t.0)) in of ∙ ap (λ n. n + 2) here) is taken_so ]
         where
           asks_it_now : (request : Request) → from ≡ k + 2 → letter.message ≡ letters.CommitAsk t request → Taken t k asks rest → ⊥
           asks_it_now request of is (left n e) = n of
@@ -335,10 +334,13 @@ module _ (w : Workload) (from clock : ℕ) (letter : Letter) where
             tail (x ∷ xs) q = absurd (cc q)
 
     pub talks_some : (asks rest : List Message) → ComesHome t k → Does t k m p b outs → Taken t k asks rest → (r : Running) → Talks p links k m t asks (Some r) → Talks q after k m t rest (Some r)
-    talks_some asks rest comes does taken_so r a = (commits, elim a.1 [
-      | inl over ↦ inl (further (λ n. is_end_of t n.entry) over)
-      | inr about ↦ inr (about_after asks rest r.asks r.answers does taken_so r.phase about)
-    ])
+    talks_some asks rest comes does taken_so r a = (
+      commits,
+      elim a.1 [
+        | inl over ↦ inl (further (λ n. is_end_of t n.entry) over)
+        | inr about ↦ inr (about_after asks rest r.asks r.answers does taken_so r.phase about)
+      ],
+    )
       where
         commits : has_committed q t ≡ true → r.phase ≡ sent
         commits h = elim (settled.commits t h) [

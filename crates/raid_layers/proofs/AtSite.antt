@@ -1,7 +1,7 @@
 -- A step of a home keeps what its programs are about.
-use Rattle.std.proofs.Common.{◌≡◌, ◌⊎◌, inl, inr, ℕ, ℤ, zero, suc, ◌+◌, ◌<◌, ◌≤◌, ◌==◌, Bool, true, false, not, ◌&&◌, ◌||◌, List, [], ◌∷◌, ◌++◌, map, find, filter, length, Option, Some, None, if◌then◌else◌, arith, sym, subst, ap, ◌∙◌, refl, append-nil, append_assoc}
+use Rattle.std.proofs.Common.{◌≡◌, ◌⊎◌, inl, inr, ℕ, ℤ, ◌+◌, ◌==◌, Bool, true, false, ◌&&◌, ◌||◌, List, [], ◌∷◌, ◌++◌, map, Option, Some, None, if◌then◌else◌, arith, sym, subst, ap, ◌∙◌, refl, append-nil, append_assoc}
 use Rattle.std.specs.Prelude.{is_some}
-use Rattle.std.specs.List.{AllByRecursion, list_any}
+use Rattle.std.specs.List.{AllByRecursion}
 use Rattle.std.specs.Option.{option_map_or}
 use Rattle.std.proofs.lemmas.Bool.{and_from, eqb-true, true≢false}
 use Rattle.std.proofs.lemmas.Grind.{common_steps}
@@ -11,14 +11,12 @@ use Rattle.raid_base.specs.declared.names.Item.{Item}
 use Rattle.raid_base.specs.declared.names.Site.{Site}
 use Rattle.raid_base.specs.declared.entry.Cause.{Cause}
 use Rattle.raid_base.specs.declared.entry.Cause.TheVariants as causes
-use Rattle.raid_base.specs.declared.entry.Entry.{Entry}
 use Rattle.raid_base.specs.declared.entry.Entry.TheVariants.{Read}
 use Rattle.raid_base.specs.declared.entry.Answer.TheVariants.{Yes, No}
 use Rattle.raid_base.specs.declared.entry.Noted.{Noted}
 use Rattle.raid_base.specs.Find.{first_of}
 use Rattle.raid_base.specs.Names.{is_txn, is_item, is_site, has_txn, holds}
 use Rattle.raid_base.specs.Sites.{session, site}
-use Rattle.raid_program.specs.declared.program.Want.TheVariants as wants
 use Rattle.raid_program.specs.Run.{put}
 use Rattle.raid_program.proofs.Asked.{end_told}
 use Rattle.raid_workload.specs.declared.workload.Workload.{Workload}
@@ -31,7 +29,7 @@ use Rattle.raid_legal.specs.Legal.{last_read, is_lost}
 use Rattle.raid_message.specs.declared.letter.Message.{Message}
 use Rattle.raid_message.specs.declared.letter.Message.TheVariants as letters
 use Rattle.raid_message.specs.declared.letter.Letter.{Letter}
-use Rattle.raid_steps.specs.State.{Out, Turn, opened, with_state, tell, Phase, asking, preparing, sent, Running, SiteState}
+use Rattle.raid_steps.specs.State.{Out, Turn, opened, tell, Phase, asking, preparing, sent, Running, SiteState}
 use Rattle.raid_steps.specs.Programs as programs
 use Rattle.raid_steps.specs.Programs.{put_running, running_of, prepare_out, voters}
 use Rattle.raid_steps.specs.Copies.{stage}
@@ -39,16 +37,14 @@ use Rattle.raid_steps.specs.World.{link}
 use Rattle.raid_sessions.proofs.Lists.{same_self}
 use Rattle.raid_moves.specs.Moves as parts
 use Rattle.raid_moves.specs.Moves.{Ascend, Tells, Says, Given, read_here, read_elsewhere, comes_to, Goes, fresh, Begins, Row, next_of, passed, Move, Moves}
-use Rattle.raid_moves.proofs.Places.{program_of}
-use Rattle.raid_moves.proofs.Steps.{ascend_row, ascend_move}
 use Rattle.raid_asks.proofs.Facts.{or_left, or_right, any_weaken}
 use Rattle.raid_asks.proofs.Line.{Line}
 use Rattle.raid_asks.proofs.Programs.{told, told_append}
 use Rattle.raid_letters.specs.Says.{NoteSays}
-use Rattle.raid_layers.specs.Asks.{has_read, has_waited, AreRead, AreReadBut, ask_of, asks_of, IsTimely, IsOneAsk, no_ask, one_ask, Token, reading, bringing, serving, Claim, OfSequencer, OfSite, HoldsOf, AllTokens, IsBelow, IsAtMost, IsFor, IsOfRead, serves_in, tells_server, FallsLater, IsServer, Outstanding, asked, dropped, read, Closing, taken, closes, IsAbout, Talks}
+use Rattle.raid_layers.specs.Asks.{has_read, has_waited, AreRead, AreReadBut, ask_of, IsOneAsk, no_ask, one_ask, Token, reading, bringing, serving, Claim, OfSequencer, OfSite, HoldsOf, AllTokens, IsBelow, IsAtMost, IsOfRead, serves_in, tells_server, FallsLater, Outstanding, asked, dropped, read, closes, IsAbout, Talks}
 use Rattle.raid_layers.proofs.Histories.{fresh_unread, fresh_unwaited, fresh_unended, committed_ended}
 use Rattle.raid_layers.proofs.Tokens.{TokenAt, all_weaker}
-use Rattle.raid_layers.proofs.Turns.{asked_by, asked_append, line_new, asked_now, IsKnown, AskOne, Now, asked_more, asked_same, now_sends, now_puts, now_ends}
+use Rattle.raid_layers.proofs.Turns.{asked_by, line_new, asked_now, IsKnown, AskOne, Now, asked_more, asked_same, now_sends, now_puts, now_ends}
 
 -- pairs
 unheld : (x : Item) (ps : List (Item × ℤ)) → first_of x ps ≡ None → holds x ps ≡ false
@@ -256,16 +252,18 @@ module _ (w : Workload) (p : List Noted) (links : List (List (List Letter))) (k 
   its turn r f n = subst (Talks p links k m r.txn (asked_now p links k m asks bs r.txn turn.outs)) f (n.talks r.txn)
 
   its_about : (turn : Turn SiteState) (r : Running) (phase : Phase) → r.phase ≡ phase → running_of turn.state r.txn ≡ Some r → N turn → (has_ended p r.txn ≡ true) ⊎ IsAbout p links k m r.txn r.asks r.answers (asked_now p links k m asks bs r.txn turn.outs) phase
-  its_about turn r phase is f n = elim (its turn r f n).1 [ | inl over ↦ inl over | inr about ↦ inr (subst (IsAbout p links k m r.txn r.asks r.answers (asked_now p links k m asks bs r.txn turn.outs)) is about) ]
+  its_about turn r phase is f n = elim (its turn r f n).1 [ inl over ↦ inl over | inr about ↦ inr (subst (IsAbout p links k m r.txn r.asks r.answers (asked_now p links k m asks bs r.txn turn.outs)) is about) ]
 
   -- its phase alone is changed, to one that it is about as well; nothing is asked
   turns_now : (turn after : Turn SiteState) (r : Running) (old new : Phase) (outs : List Out) → r.phase ≡ old → (old ≡ sent → ⊥) → running_of turn.state r.txn ≡ Some r → after.state.running ≡ put_running (record r { phase = new }) turn.state.running → after.outs ≡ turn.outs ++ outs → ((t : Txn) → asked_by t outs ≡ []) →
       (IsAbout p links k m r.txn r.asks r.answers (asked_now p links k m asks bs r.txn turn.outs) old → IsAbout p links k m r.txn r.asks r.answers (asked_now p links k m asks bs r.txn turn.outs) new) → N turn → N after
   turns_now turn after r old new outs is unsent f put more none about n =
       now_puts p links k m asks bs turn after (record r { phase = new }) outs put more (λ t d. none t)
-      (subst (λ ms. (has_ended p r.txn ≡ true) ⊎ IsOneAsk p r.txn ms) (sym same) (n.one r.txn))
-      ((λ c. absurd (unsent (sym is ∙ (its turn r f n).0 c))), subst (λ ms. (has_ended p r.txn ≡ true) ⊎ IsAbout p links k m r.txn r.asks r.answers ms new) (sym same)
-      (elim (its_about turn r old is f n) [ | inl over ↦ inl over | inr a ↦ inr (about a) ])) (n.known r.txn r f) n
+      (subst (λ ms. (has_ended p r.txn ≡ true) ⊎ IsOneAsk p r.txn ms) (sym same) (n.one r.txn)) (
+        (λ c. absurd (unsent (sym is ∙ (its turn r f n).0 c))),
+        subst (λ ms. (has_ended p r.txn ≡ true) ⊎ IsAbout p links k m r.txn r.asks r.answers ms new) (sym same)
+            (elim (its_about turn r old is f n) [ inl over ↦ inl over | inr a ↦ inr (about a) ]),
+      ) (n.known r.txn r f) n
     where
       same : asked_now p links k m asks bs r.txn (turn.outs ++ outs) ≡ asked_now p links k m asks bs r.txn turn.outs
       same = asked_same p links k m asks bs r.txn turn.outs outs (none r.txn)
@@ -312,7 +310,7 @@ module _ (w : Workload) (p : List Noted) (links : List (List (List Letter))) (k 
               }
 
       both : (has_ended p r.txn ≡ true) ⊎ Lost turn r x
-      both = elim (its_about turn r (asking ask x (Some q)) is f n) [ | inl over ↦ inl over | inr a ↦ inr (lost a) ]
+      both = elim (its_about turn r (asking ask x (Some q)) is f n) [ inl over ↦ inl over | inr a ↦ inr (lost a) ]
 
       one : (has_ended p r.txn ≡ true) ⊎ Lost turn r x → AskOne p links k m asks bs r.txn (turn.outs ++ (1, 0, letters.ReadAsk r.txn (r.asks + 1) x) ∷ [])
       one (inl over) = inl over
@@ -364,7 +362,7 @@ module _ (w : Workload) (p : List Noted) (links : List (List (List Letter))) (k 
   -- the value of an ask comes
   given_now : N (opened state) → (r : Running) (ask : ℕ) (x : Item) (q : Option Site) (v : ℤ) → running_of state r.txn ≡ Some r → r.phase ≡ asking ask x q → Given w state from letter r.txn ask v → {after : Turn SiteState} → Goes w (opened state) (record r { answers = put r.answers x v }) after → N after
   given_now start r ask x q v f is g gg =
-      goes_now (opened state) (record r { answers = put r.answers x v }) gg start (start.known r.txn r f) (λ c. absurd (unsent ((its (opened state) r f start).0 c))) (elim (its_about (opened state) r (asking ask x q) is f start) [ | inl over ↦ inl over | inr a ↦ inr (ready a) ])
+      goes_now (opened state) (record r { answers = put r.answers x v }) gg start (start.known r.txn r f) (λ c. absurd (unsent ((its (opened state) r f start).0 c))) (elim (its_about (opened state) r (asking ask x q) is f start) [ inl over ↦ inl over | inr a ↦ inr (ready a) ])
     where
       unsent : r.phase ≡ sent → ⊥
       unsent e = cc (is, e)
@@ -445,4 +443,4 @@ module _ (w : Workload) (p : List Noted) (links : List (List (List Letter))) (k 
 
   -- the step
   pub step_now : (last : Turn SiteState) → parts.Reached w state from letter last → Line w (site (k + 1)) p (bs ++ told last.outs) → N (opened state) → N last
-  step_now last (after, (row, moves)) line start = (let more = moves_extend w state from letter moves in moves_now moves line (row_now start row last more.0 more.1 line))
+  step_now last (after, (row, others)) line start = (let more = moves_extend w state from letter others in moves_now others line (row_now start row last more.0 more.1 line))

@@ -1,6 +1,5 @@
 -- What a history with one more entry says of a transaction's reads and waits.
-use Rattle.std.proofs.Common.{◌≡◌, ◌⊎◌, inl, inr, ℕ, ◌+◌, ◌<◌, ◌≤◌, ◌==◌, nat_lt, Bool, true, false, not, ◌&&◌, ◌||◌, List, [], ◌∷◌, ◌++◌, length, fold, filter, filter_map, Option, Some, None, if◌then◌else◌, arith, sym, subst, ap, ◌∙◌, refl}
-use Rattle.std.specs.Prelude.{⊤}
+use Rattle.std.proofs.Common.{◌≡◌, inl, inr, ℕ, ◌≤◌, nat_lt, Bool, true, false, ◌&&◌, ◌||◌, List, [], ◌∷◌, ◌++◌, fold, filter, filter_map, Option, Some, None, if◌then◌else◌, sym, subst, ap, ◌∙◌, refl}
 use Rattle.std.specs.List.{AllByRecursion, list_any, cons_option}
 use Rattle.std.specs.Option.{option_map_or}
 use Rattle.std.proofs.lemmas.Bool.{and_parts, and_from, true≢false}
@@ -8,22 +7,20 @@ use Rattle.std.proofs.lemmas.List.Folds.{list_any-append}
 use Rattle.std.proofs.lemmas.List.Sums.{fold-append}
 use Rattle.raid_base.specs.declared.names.Txn.{Txn}
 use Rattle.raid_base.specs.declared.names.Item.{Item}
-use Rattle.raid_base.specs.declared.names.Site.{Site}
 use Rattle.raid_base.specs.declared.request.Request.{Request}
 use Rattle.raid_base.specs.declared.entry.Entry.{Entry}
 use Rattle.raid_base.specs.declared.entry.Entry.TheVariants.{Read, Wait, Commit, Abort}
 use Rattle.raid_base.specs.declared.entry.Noted.{Noted}
 use Rattle.raid_base.specs.Names.{is_txn, is_item, is_site}
-use Rattle.raid_workload.specs.declared.workload.Workload.{Workload}
-use Rattle.raid_rules.specs.Entries.{is_begin_of, is_read, is_commit_of, is_abort_of, is_end_of, is_down, reads_item, wait_of}
-use Rattle.raid_rules.specs.History.{noted, add, next, has_begun, has_committed, has_ended, is_running, waiting, is_waiting}
+use Rattle.raid_rules.specs.Entries.{is_read, is_commit_of, is_abort_of, is_end_of, is_down, reads_item, wait_of}
+use Rattle.raid_rules.specs.History.{add, next, has_begun, has_committed, has_ended, is_running, is_waiting}
 use Rattle.raid_rules.specs.Order.{is_of, IsWhole}
 use Rattle.raid_legal.specs.Seen.{has_down_after}
 use Rattle.raid_legal.specs.Legal.{last_read, is_lost}
 use Rattle.raid_message.specs.declared.letter.Message.{Message}
 use Rattle.raid_message.specs.declared.letter.Message.TheVariants as letters
 use Rattle.raid_asks.proofs.Facts.{or_left, or_right, or_parts, any_weaken}
-use Rattle.raid_layers.specs.Asks.{has_read, is_wait_of, has_waited, AreRead, IsTimely}
+use Rattle.raid_layers.specs.Asks.{has_read, is_wait_of, has_waited, IsTimely}
 
 -- one entry more
 pub no_more : (b : Bool) → (b || false) ≡ b
@@ -173,7 +170,7 @@ module _ (p : List Noted) (whole : IsWhole p) (t : Txn) (fresh : has_begun p t �
       abort_of other h = absurd (true≢false (sym h))
 
       end_of : (e : Entry) → is_end_of t e ≡ true → is_of t e ≡ true
-      end_of e h = elim (or_parts (is_commit_of t e) (is_abort_of t e) h) [ | inl c ↦ commit_of e c | inr a ↦ abort_of e a ]
+      end_of e h = elim (or_parts (is_commit_of t e) (is_abort_of t e) h) [ inl c ↦ commit_of e c | inr a ↦ abort_of e a ]
 
 -- a commit ends its transaction
 pub committed_ended : (p : List Noted) (t : Txn) → has_committed p t ≡ true → has_ended p t ≡ true

@@ -1,9 +1,9 @@
 -- The sequencer's step in two parts: a Read or a Wait that the letter asks for, if it does; and then entries that are neither.
-use Rattle.std.proofs.Common.{◌≡◌, ◌⊎◌, inl, inr, ℕ, zero, suc, ◌+◌, ◌==◌, nat_lt, nat_le, Bool, true, false, not, ◌&&◌, ◌||◌, List, [], ◌∷◌, ◌++◌, map, filter, Option, Some, None, if◌then◌else◌, arith, sym, subst, ap, ◌∙◌, refl, append-nil}
+use Rattle.std.proofs.Common.{◌≡◌, ◌⊎◌, inl, inr, ℕ, zero, suc, ◌+◌, ◌==◌, nat_lt, nat_le, Bool, true, false, not, ◌&&◌, ◌||◌, List, [], ◌∷◌, ◌++◌, map, filter, Option, Some, None, if◌then◌else◌, arith, sym, refl, append-nil}
 use Rattle.std.specs.Prelude.{⊤, flat_map, filter_map, slice_get, option_map, option_and_then}
 use Rattle.std.specs.List.{AllByRecursion, list_any, cons_option}
 use Rattle.std.specs.Option.{option_map_or}
-use Rattle.std.proofs.lemmas.Bool.{and_parts, true≢false}
+use Rattle.std.proofs.lemmas.Bool.{and_parts}
 use Rattle.raid_base.specs.declared.names.Txn.{Txn}
 use Rattle.raid_base.specs.declared.names.Item.{Item}
 use Rattle.raid_base.specs.declared.names.Site.{Site}
@@ -38,7 +38,7 @@ use Rattle.raid_steps.specs.Fits.{knows_site, is_to_sequencer}
 use Rattle.raid_steps.specs.Sequencer as rows
 use Rattle.raid_steps.specs.Sequencer.{so_far, place, place_if, settle_from, settle, finish, hear_sequencer}
 use Rattle.raid_asks.proofs.Facts.{or_left, or_right}
-use Rattle.raid_asks.proofs.Steps.{IsOther, AreOther}
+use Rattle.raid_asks.proofs.Steps.{AreOther}
 use Rattle.raid_layers.specs.Asks.{has_waited}
 use Rattle.raid_layers.proofs.Histories.{waits_waited}
 

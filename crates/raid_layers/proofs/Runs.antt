@@ -1,12 +1,11 @@
 -- In every reached world, programs ask one thing at a time.
-use Rattle.std.proofs.Common.{◌≡◌, ◌⊎◌, inl, inr, ℕ, ℤ, zero, suc, ◌+◌, ◌<◌, ◌≤◌, List, [], ◌∷◌, ◌++◌, length, fold, replicate, Option, Some, None, true, arith, sym, subst, ap, ◌∙◌, refl, append-nil, append_assoc}
+use Rattle.std.proofs.Common.{◌≡◌, inr, ℕ, ℤ, zero, suc, ◌+◌, ◌<◌, List, [], ◌∷◌, ◌++◌, length, replicate, Option, Some, None, arith, sym, subst, ap, refl, append-nil, append_assoc}
 use Rattle.std.specs.Prelude.{max, slice_get, slice_set, slice_index, slice_index_or}
 use Rattle.std.specs.Option.{option_map_or}
 use Rattle.std.proofs.lemmas.List.Sums.{fold-append}
 use Rattle.raid_base.specs.declared.names.Txn.{Txn}
 use Rattle.raid_base.specs.declared.names.Item.{Item}
 use Rattle.raid_base.specs.declared.names.Site.{Site}
-use Rattle.raid_base.specs.Sites.{site}
 use Rattle.raid_program.specs.Run.{put}
 use Rattle.raid_workload.specs.declared.workload.Workload.{Workload}
 use Rattle.raid_rules.specs.History.{noted}
@@ -16,7 +15,7 @@ use Rattle.raid_steps.specs.State.{asking, Running, SiteState}
 use Rattle.raid_steps.specs.Programs.{running_of}
 use Rattle.raid_steps.specs.Monitor.{hear_monitor}
 use Rattle.raid_steps.specs.Site.{hear_site}
-use Rattle.raid_steps.specs.World.{World, Servers, hear, hear_at, session_of, link, take_front, pick, run, open_world, first_site}
+use Rattle.raid_steps.specs.World.{World, Servers, hear, hear_at, session_of, link, take_front, pick, run, open_world}
 use Rattle.raid_sessions.proofs.Holds.{Holds}
 use Rattle.raid_sessions.proofs.Lists.{get_below, get_set}
 use Rattle.raid_sessions.proofs.Mail.{moved}
@@ -26,9 +25,9 @@ use Rattle.raid_asks.proofs.Begins.{reached_all}
 use Rattle.raid_asks.proofs.Reached.{first_state}
 use Rattle.raid_asks.proofs.Waits.{Waits}
 use Rattle.raid_letters.proofs.Runs.{reaches}
-use Rattle.raid_layers.specs.Asks.{asks_of, no_ask, Talks, AskOneThing}
+use Rattle.raid_layers.specs.Asks.{asks_of, no_ask, AskOneThing}
 use Rattle.raid_layers.proofs.SiteWorlds.{site_talks}
-use Rattle.raid_layers.proofs.Worlds.{OneEach, TalksAt, TalkAll, Landed, monitor_talks, sequencer_talks}
+use Rattle.raid_layers.proofs.Worlds.{TalksAt, TalkAll, Landed, monitor_talks, sequencer_talks}
 
 empty_at : (n k : ℕ) → slice_index_or (replicate {A = List Letter} n []) k [] ≡ []
 empty_at zero k = refl

@@ -1,12 +1,10 @@
 -- What the sequencer's later entries leave as it was, and what they tell.
-use Rattle.std.proofs.Common.{◌≡◌, ◌⊎◌, inl, inr, ℕ, zero, suc, ◌+◌, ◌<◌, ◌≤◌, ◌==◌, nat_lt, Bool, true, false, not, ◌&&◌, ◌||◌, List, [], ◌∷◌, ◌++◌, length, length-append, map, filter, if◌then◌else◌, arith, sym, subst, ap, ◌∙◌, refl, append-nil, append_assoc}
+use Rattle.std.proofs.Common.{◌≡◌, ◌⊎◌, inl, inr, ℕ, ◌+◌, ◌≤◌, ◌==◌, nat_lt, Bool, true, false, not, ◌&&◌, ◌||◌, List, [], ◌∷◌, ◌++◌, length, length-append, map, filter, if◌then◌else◌, arith, sym, subst, ap, ◌∙◌, refl, append-nil, append_assoc}
 use Rattle.std.specs.Prelude.{⊤, flat_map}
 use Rattle.std.specs.List.{AllByRecursion, list_any}
 use Rattle.std.proofs.lemmas.Bool.{and_parts, and_from, true≢false}
 use Rattle.raid_base.specs.declared.names.Txn.{Txn}
-use Rattle.raid_base.specs.declared.names.Item.{Item}
 use Rattle.raid_base.specs.declared.names.Site.{Site}
-use Rattle.raid_base.specs.declared.request.Request.{Request}
 use Rattle.raid_base.specs.declared.entry.Entry.{Entry}
 use Rattle.raid_base.specs.declared.entry.Entry.TheVariants.{Read, Wait, Commit, Abort, Down, Up}
 use Rattle.raid_base.specs.declared.entry.Noted.{Noted}
@@ -123,7 +121,7 @@ module _ (w : Workload) where
           (all_weaken (λ (out : Out). IsCalm r q out.2) (λ (out : Out). IsCalm p q out.2) ys (λ out c. calm_from p r q a.long out.2 c) b.calm);
       commits = λ t h. elim (b.commits t h) [
         | inl before ↦ a.commits t before
-        | inr now ↦ inr (unended p r a.grows t now.0 (has_ended p t) refl, elim now.1 [ | inl waited ↦ inl (sym (a.quiet t).waits ∙ waited) | inr asked ↦ inr asked ])
+        | inr now ↦ inr (unended p r a.grows t now.0 (has_ended p t) refl, elim now.1 [ inl waited ↦ inl (sym (a.quiet t).waits ∙ waited) | inr asked ↦ inr asked ])
       ];
     }
 

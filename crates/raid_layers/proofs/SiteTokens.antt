@@ -1,16 +1,13 @@
 -- What a site sends tells of no token but of a value, which it was to read; and what is on its way to no home takes away what programs there
 -- are about.
-use Rattle.std.proofs.Common.{◌≡◌, ◌⊎◌, inl, inr, ℕ, ℤ, zero, suc, ◌+◌, ◌≤◌, ◌<◌, ◌==◌, Bool, true, false, ◌&&◌, List, [], ◌∷◌, ◌++◌, map, Option, Some, None, if◌then◌else◌, arith, sym, subst, ap, ◌∙◌, refl}
+use Rattle.std.proofs.Common.{◌≡◌, inl, inr, ℕ, ℤ, suc, ◌+◌, ◌==◌, Bool, true, false, List, [], ◌∷◌, ◌++◌, map, Option, Some, None, if◌then◌else◌, arith, ap, refl}
 use Rattle.std.specs.Prelude.{is_some}
-use Rattle.std.specs.List.{AllByRecursion}
-use Rattle.std.proofs.lemmas.Bool.{eqb-true, true≢false}
 use Rattle.raid_base.specs.declared.names.Txn.{Txn}
 use Rattle.raid_base.specs.declared.names.Item.{Item}
 use Rattle.raid_base.specs.declared.names.Site.{Site}
-use Rattle.raid_base.specs.declared.entry.Answer.TheVariants.{Yes, No}
+use Rattle.raid_base.specs.declared.entry.Answer.TheVariants.{No}
 use Rattle.raid_base.specs.declared.entry.Noted.{Noted}
 use Rattle.raid_base.specs.Names.{is_txn}
-use Rattle.raid_base.specs.Sites.{site}
 use Rattle.raid_workload.specs.declared.workload.Workload.{Workload}
 use Rattle.raid_message.specs.declared.letter.Message.{Message}
 use Rattle.raid_message.specs.declared.letter.Message.TheVariants as letters
@@ -18,14 +15,13 @@ use Rattle.raid_message.specs.declared.letter.Letter.{Letter}
 use Rattle.raid_steps.specs.State.{Out, Turn, opened, tell, Phase, asking, preparing, sent, Running, SiteState}
 use Rattle.raid_steps.specs.Programs as programs
 use Rattle.raid_steps.specs.Programs.{prepare_out, voters}
-use Rattle.raid_steps.specs.Site.{hear_site, hear_up, hear_down}
-use Rattle.raid_steps.specs.Site as rows
+use Rattle.raid_steps.specs.Site.{hear_site}
 use Rattle.raid_steps.specs.World.{link}
 use Rattle.raid_sessions.proofs.Lists.{all_append}
 use Rattle.raid_moves.specs.Moves as parts
 use Rattle.raid_moves.specs.Moves.{Ascend, Hears, Tells, Says, Given, read_here, read_elsewhere, comes_to, Goes, fresh, Starts, at_welcome, at_done, at_drop, Row, next_of, passed, Move}
 use Rattle.raid_moves.proofs.Steps.{step_keeps}
-use Rattle.raid_layers.specs.Asks.{ask_of, asks_of, Token, reading, bringing, serving, Claim, OfSequencer, OfSite, HoldsOf, AllTokens, IsBelow, IsAtMost, IsFor, IsOfRead, FallsLater, Outstanding, asked, dropped, read, Closing, IsAbout, Talks}
+use Rattle.raid_layers.specs.Asks.{ask_of, reading, bringing, Claim, HoldsOf, AllTokens, IsBelow, IsAtMost, IsOfRead, FallsLater, Outstanding, asked, dropped, read, IsAbout, Talks}
 use Rattle.raid_layers.proofs.Tokens.{SentHolds}
 use Rattle.raid_layers.proofs.Turns.{asked_by}
 
@@ -157,4 +153,4 @@ module _ (p : List Noted) (links after : List (List (List Letter))) (k m : ℕ) 
 
   pub talks_so : (asks : List Message) (o : Option Running) → Talks p links k m t asks o → Talks p after k m t asks o
   talks_so asks None a = a
-  talks_so asks (Some r) a = (a.0, elim a.1 [ | inl over ↦ inl over | inr about ↦ inr (about_so r.asks r.answers asks r.phase about) ])
+  talks_so asks (Some r) a = (a.0, elim a.1 [ inl over ↦ inl over | inr about ↦ inr (about_so r.asks r.answers asks r.phase about) ])

@@ -1,6 +1,6 @@
 -- A site's step in the world keeps what programs are about.
-use Rattle.std.proofs.Common.{◌≡◌, ◌≢◌, ◌⊎◌, inl, inr, ℕ, ℤ, zero, suc, ◌+◌, ◌-◌, ◌<◌, ◌≤◌, ◌==◌, Bool, true, false, not, ◌&&◌, List, [], ◌∷◌, ◌++◌, length, Option, Some, None, if◌then◌else◌, arith, sym, subst, ap, ◌∙◌, refl, append-nil}
-use Rattle.std.specs.Prelude.{⊤, slice_get, slice_set}
+use Rattle.std.proofs.Common.{◌≡◌, ◌≢◌, ◌⊎◌, inl, inr, ℕ, zero, suc, ◌+◌, ◌-◌, ◌<◌, ◌≤◌, ◌==◌, Bool, true, false, not, List, [], ◌∷◌, ◌++◌, Some, if◌then◌else◌, arith, sym, subst, ap, ◌∙◌, refl, append-nil}
+use Rattle.std.specs.Prelude.{slice_get, slice_set}
 use Rattle.std.specs.List.{AllByRecursion}
 use Rattle.std.proofs.lemmas.Bool.{eqb-true, true≢false}
 use Rattle.raid_base.specs.declared.names.Txn.{Txn}
@@ -15,14 +15,14 @@ use Rattle.raid_rules.specs.Sessions.{last_session}
 use Rattle.raid_message.specs.declared.letter.Message.{Message}
 use Rattle.raid_message.specs.declared.letter.Message.TheVariants as letters
 use Rattle.raid_message.specs.declared.letter.Letter.{Letter}
-use Rattle.raid_steps.specs.State.{Out, Turn, opened, Running, SiteState}
+use Rattle.raid_steps.specs.State.{Turn, opened, Running, SiteState}
 use Rattle.raid_steps.specs.Programs.{running_of}
 use Rattle.raid_steps.specs.Site.{hear_site}
 use Rattle.raid_steps.specs.Site as rows
 use Rattle.raid_steps.specs.World.{World, Servers, link}
 use Rattle.raid_placed.proofs.Orderly.{placed_whole}
 use Rattle.raid_sessions.proofs.Agreed as agreed
-use Rattle.raid_sessions.proofs.Holds.{last_of, IsHeard, IsSpoken, Holds}
+use Rattle.raid_sessions.proofs.Holds.{last_of, IsHeard, IsSpoken}
 use Rattle.raid_sessions.proofs.Lists.{get_below, get_set, get_other, some_is}
 use Rattle.raid_sessions.proofs.Mail.{same_or_not, letters_to, moved, moved_taken, moved_sent, moved_other}
 use Rattle.raid_sessions.proofs.Site.{hears_server}
@@ -42,7 +42,7 @@ use Rattle.raid_layers.proofs.AtSite.{step_now}
 use Rattle.raid_layers.proofs.SiteTokens.{IsClosed, site_holds, deaf_step, talks_so}
 use Rattle.raid_layers.proofs.Tokens.{TokenAt, tokens_step, none_of, falls_rest, asks_append}
 use Rattle.raid_layers.proofs.Turns.{asked_by, asked_sent, asked_now, IsKnown, Now}
-use Rattle.raid_layers.proofs.Worlds.{OneEach, TalksAt, TalkAll, Landed, moves_only}
+use Rattle.raid_layers.proofs.Worlds.{TalksAt, TalkAll, Landed, moves_only}
 
 none_there : (rs : List Running) (t : Txn) (r : Running) → rs ≡ [] → program_of t rs ≡ Some r → ⊥
 none_there rs t r e f = nothing (sym (ap (program_of t) e) ∙ f)

@@ -1,7 +1,6 @@
 -- Tokens on all links: a claim of them is kept where what is sent keeps it; and notes that a site is down, along the sequencer's link.
-use Rattle.std.proofs.Common.{◌≡◌, ◌⊎◌, inl, inr, ℕ, zero, suc, ◌+◌, ◌-◌, ◌<◌, ◌≤◌, ◌==◌, Bool, true, false, ◌&&◌, ◌||◌, List, [], ◌∷◌, ◌++◌, fold, if◌then◌else◌, arith, sym, subst, ap, ◌∙◌, refl, append_assoc}
-use Rattle.std.specs.Prelude.{⊤}
-use Rattle.std.specs.List.{AllByRecursion, list_any}
+use Rattle.std.proofs.Common.{◌≡◌, ℕ, zero, suc, ◌+◌, ◌-◌, ◌==◌, Bool, true, false, ◌||◌, List, [], ◌∷◌, ◌++◌, fold, if◌then◌else◌, arith, sym, subst, ap, ◌∙◌, refl, append_assoc}
+use Rattle.std.specs.List.{AllByRecursion}
 use Rattle.std.proofs.lemmas.Bool.{and_parts, eqb-true, true≢false}
 use Rattle.raid_base.specs.declared.names.Txn.{Txn}
 use Rattle.raid_base.specs.declared.names.Site.{Site}
@@ -10,7 +9,6 @@ use Rattle.raid_base.specs.Names.{is_txn, is_site}
 use Rattle.raid_base.specs.Sites.{site}
 use Rattle.raid_workload.specs.declared.workload.Workload.{Workload}
 use Rattle.raid_workload.specs.Parts.{home}
-use Rattle.raid_rules.specs.Entries.{is_begin_of, is_down}
 use Rattle.raid_rules.specs.History.{has_begun}
 use Rattle.raid_rules.proofs.Push.{same_txn}
 use Rattle.raid_legal.specs.Seen.{has_down_after}
@@ -20,10 +18,8 @@ use Rattle.raid_message.specs.declared.letter.Letter.{Letter}
 use Rattle.raid_steps.specs.State.{Out}
 use Rattle.raid_steps.specs.World.{link, set_link, post}
 use Rattle.raid_sessions.proofs.Lists.{all_append, all_weaken, same_self}
-use Rattle.raid_asks.specs.Own.{IsOf}
-use Rattle.raid_asks.proofs.Facts.{or_left}
 use Rattle.raid_letters.specs.Says.{NoteSays, AskSays, PeerSays}
-use Rattle.raid_letters.proofs.Runs.{set_all, LetterSays, QueueSays, LinksSay}
+use Rattle.raid_letters.proofs.Runs.{set_all, LetterSays, LinksSay}
 use Rattle.raid_layers.specs.Asks.{ask_of, asks_of, Token, reading, bringing, serving, Claim, OfSequencer, OfSite, HoldsOf, AllTokens, IsBelow, serves_in, tells_server, FallsLater}
 
 -- what holds of each letter, by its link

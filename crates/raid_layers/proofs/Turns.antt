@@ -1,7 +1,7 @@
 -- What programs at a home are about in a turn, given what is on its way from before the step; and how it changes where one program is put.
-use Rattle.std.proofs.Common.{◌≡◌, ◌⊎◌, inl, inr, ℕ, zero, suc, ◌+◌, ◌<◌, ◌≤◌, ◌==◌, Bool, true, false, not, ◌&&◌, ◌||◌, List, [], ◌∷◌, ◌++◌, find, filter, Option, Some, None, if◌then◌else◌, arith, sym, subst, ap, ◌∙◌, refl, append-nil, append_assoc}
-use Rattle.std.specs.List.{AllByRecursion, list_any}
-use Rattle.std.proofs.lemmas.Bool.{eqb-true, true≢false}
+use Rattle.std.proofs.Common.{◌≡◌, ◌⊎◌, inl, inr, ℕ, ◌==◌, Bool, true, false, not, ◌||◌, List, [], ◌∷◌, ◌++◌, filter, Some, None, if◌then◌else◌, arith, sym, subst, ap, ◌∙◌, refl, append-nil, append_assoc}
+use Rattle.std.specs.List.{AllByRecursion}
+use Rattle.std.proofs.lemmas.Bool.{eqb-true}
 use Rattle.std.proofs.lemmas.List.Folds.{list_any-append}
 use Rattle.raid_base.specs.declared.names.Txn.{Txn}
 use Rattle.raid_base.specs.declared.names.Site.{Site}
@@ -11,19 +11,15 @@ use Rattle.raid_workload.specs.declared.workload.Workload.{Workload}
 use Rattle.raid_rules.specs.History.{has_begun, has_ended}
 use Rattle.raid_rules.proofs.Push.{same_txn}
 use Rattle.raid_message.specs.declared.letter.Message.{Message}
-use Rattle.raid_message.specs.declared.letter.Message.TheVariants as letters
 use Rattle.raid_message.specs.declared.letter.Letter.{Letter}
 use Rattle.raid_steps.specs.State.{Out, Turn, Running, SiteState}
 use Rattle.raid_steps.specs.Programs.{put_running, running_of}
-use Rattle.raid_sessions.proofs.Lists.{same_self}
 use Rattle.raid_sessions.proofs.Mail.{letter_of, letters_to}
-use Rattle.raid_moves.specs.Moves.{Ascend}
 use Rattle.raid_moves.proofs.Places.{program_of, put_found, put_other}
 use Rattle.raid_asks.proofs.Facts.{or_left}
 use Rattle.raid_asks.proofs.Line.{IsAfter, Line}
 use Rattle.raid_asks.proofs.Programs.{told, told_append}
 use Rattle.raid_layers.specs.Asks.{ask_of, asks_of, IsOneAsk, Talks}
-use Rattle.raid_layers.proofs.Tokens.{asks_append}
 
 -- what a site's messages ask the sequencer for a transaction
 abbrev pub asked_by : Txn → List Out → List Message

@@ -1,18 +1,18 @@
 -- Each step in the world keeps what programs are about.
-use Rattle.std.proofs.Common.{◌≡◌, ◌≢◌, ◌⊎◌, inl, inr, ℕ, ℤ, zero, suc, ◌+◌, ◌-◌, ◌<◌, ◌≤◌, ◌==◌, nat_lt, Bool, true, false, not, ◌&&◌, List, [], ◌∷◌, ◌++◌, length, find, fold, Option, Some, None, if◌then◌else◌, arith, sym, subst, ap, ◌∙◌, refl, append-nil}
-use Rattle.std.specs.Prelude.{⊤, slice_get, slice_set}
+use Rattle.std.proofs.Common.{◌≡◌, ◌≢◌, ◌⊎◌, inl, inr, ℕ, ℤ, suc, ◌+◌, ◌<◌, ◌≤◌, ◌==◌, Bool, true, false, List, [], ◌∷◌, ◌++◌, length, find, Option, Some, None, arith, sym, subst, ap, ◌∙◌, refl}
+use Rattle.std.specs.Prelude.{slice_get}
 use Rattle.std.specs.List.{AllByRecursion}
 use Rattle.std.proofs.lemmas.Bool.{eqb-true, true≢false}
 use Rattle.raid_base.specs.declared.names.Txn.{Txn}
 use Rattle.raid_base.specs.declared.names.Item.{Item}
 use Rattle.raid_base.specs.declared.names.Site.{Site}
 use Rattle.raid_base.specs.declared.entry.Noted.{Noted}
-use Rattle.raid_base.specs.Names.{is_txn, is_site, has_txn}
+use Rattle.raid_base.specs.Names.{is_txn, is_site}
 use Rattle.raid_base.specs.Sites.{site}
 use Rattle.raid_program.specs.Run.{put}
 use Rattle.raid_workload.specs.declared.workload.Workload.{Workload}
 use Rattle.raid_workload.specs.Parts.{home}
-use Rattle.raid_rules.specs.History.{noted, has_begun, has_ended}
+use Rattle.raid_rules.specs.History.{noted, has_ended}
 use Rattle.raid_rules.specs.Sessions.{last_session}
 use Rattle.raid_message.specs.declared.letter.Message.{Message}
 use Rattle.raid_message.specs.declared.letter.Message.TheVariants as letters
@@ -20,38 +20,28 @@ use Rattle.raid_message.specs.declared.letter.Letter.{Letter}
 use Rattle.raid_steps.specs.State.{Out, Turn, Sequencer, opened, asking, Running, SiteState}
 use Rattle.raid_steps.specs.Programs.{running_of}
 use Rattle.raid_steps.specs.Sequencer.{is_hello, hear_sequencer}
-use Rattle.raid_steps.specs.Site.{hear_site}
-use Rattle.raid_steps.specs.Site as rows
-use Rattle.raid_steps.specs.World.{World, Servers, link}
-use Rattle.raid_placed.proofs.Orderly.{placed_whole}
-use Rattle.raid_sessions.proofs.Agreed as agreed
-use Rattle.raid_sessions.proofs.Holds.{last_of, IsHeard, IsSpoken, Holds}
-use Rattle.raid_sessions.proofs.Lists.{get_below, get_set, get_other, same_self, some_is}
+use Rattle.raid_steps.specs.World.{Servers, link}
+use Rattle.raid_sessions.proofs.Holds.{Holds}
+use Rattle.raid_sessions.proofs.Lists.{get_below}
 use Rattle.raid_sessions.proofs.Mail.{same_or_not, letters_to, moved, moved_taken, moved_sent, moved_other}
 use Rattle.raid_sessions.proofs.Sessions.{AllHello, Sent}
-use Rattle.raid_sessions.proofs.Site.{hears_server}
-use Rattle.raid_moves.specs.Moves.{Ascend, Hears, comes_to, fresh}
+use Rattle.raid_moves.specs.Moves.{comes_to, fresh}
 use Rattle.raid_moves.proofs.Places.{all_found, found_txn}
-use Rattle.raid_moves.proofs.Steps.{site_moves}
 use Rattle.raid_asks.specs.Way.{begins_of as begins}
 use Rattle.raid_asks.proofs.Cares.{Stage, stopped, asleep, awake, Cares, begins_append, begins_told}
 use Rattle.raid_asks.proofs.Cares as cares
 use Rattle.raid_asks.proofs.Facts.{placed_order}
 use Rattle.raid_asks.proofs.Homes.{Homes}
 use Rattle.raid_asks.proofs.Least.{Ours}
-use Rattle.raid_asks.proofs.Line.{Line, FineAt}
-use Rattle.raid_asks.proofs.Programs.{told}
 use Rattle.raid_asks.proofs.Waits.{Waits}
-use Rattle.raid_letters.specs.Says.{NoteSays, AskSays}
-use Rattle.raid_letters.proofs.Runs.{LetterSays, QueueSays, LinksSay}
-use Rattle.raid_layers.specs.Asks.{ask_of, asks_of, IsOneAsk, no_ask, one_ask, Claim, OfSequencer, HoldsOf, AllTokens, FallsLater, Talks}
-use Rattle.raid_layers.proofs.AtSequencer.{Firsts, Starts, Does, ComesHome, firsts, Taken, left, took, one_after, talks_none, talks_some}
-use Rattle.raid_layers.proofs.AtSite.{step_now}
+use Rattle.raid_letters.specs.Says.{AskSays}
+use Rattle.raid_letters.proofs.Runs.{QueueSays, LinksSay}
+use Rattle.raid_layers.specs.Asks.{ask_of, asks_of, IsOneAsk, Claim, AllTokens, FallsLater, Talks}
+use Rattle.raid_layers.proofs.AtSequencer.{Firsts, ComesHome, firsts, Taken, left, took, one_after, talks_none, talks_some}
 use Rattle.raid_layers.proofs.Opening.{Opens, hear_opens}
 use Rattle.raid_layers.proofs.Settled.{Settled, chain_settled}
-use Rattle.raid_layers.proofs.SiteTokens.{IsClosed, site_holds, deaf_step, talks_so}
-use Rattle.raid_layers.proofs.Tokens.{SentHolds, tokens_step, none_of, falls_rest, IsAskOf, asked_home, some_home, asks_append}
-use Rattle.raid_layers.proofs.Turns.{asked_by, asked_sent, asked_now, IsKnown, Now}
+use Rattle.raid_layers.proofs.SiteTokens.{IsClosed, talks_so}
+use Rattle.raid_layers.proofs.Tokens.{SentHolds, tokens_step, asked_home, some_home}
 
 -- letters that are of two sessions are Hellos; and these ask for nothing
 all_hello : (a b : ℕ) → a ≢ b → (ls : List Letter) → Sent a ls → Sent b ls → AllHello ls
