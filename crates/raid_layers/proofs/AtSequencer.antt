@@ -30,8 +30,8 @@ use Rattle.raid_sessions.proofs.Mail.{letter_of, letters_to}
 use Rattle.raid_asks.proofs.Notes.{all_sent}
 use Rattle.raid_layers.specs.Asks.{has_read, is_wait_of, has_waited, AreReadBut, ask_of, IsOneAsk, no_ask, one_ask, Claim, HoldsOf, AllTokens, IsBelow, IsAtMost, IsOfRead, FallsLater, Outstanding, asked, dropped, read, asks_end, Closing, taken, closes, IsAbout, Talks}
 use Rattle.raid_layers.proofs.Histories.{Grows, IsQuiet, quiet_same, quiet_on, quiet_push, any_same, any_last, any_kept, read_push, still_timely, last_within}
-use Rattle.raid_layers.proofs.Opening.{IsAsked, First, reads, waits, nothing}
-use Rattle.raid_layers.proofs.Settled.{IsCalm, calm_holds, Settled}
+use Rattle.raid_layers.proofs.Opening.{First, reads, waits, nothing}
+use Rattle.raid_layers.proofs.Settled.{IsAsked, IsCalm, calm_holds, Settled}
 use Rattle.raid_layers.proofs.Tokens.{SentHolds, all_weaker, no_falls, falls_on, Fell, IsAskOf, AsksFor, asks_not, asks_it, asks_for}
 
 module _ (w : Workload) (from clock : ℕ) (letter : Letter) where
@@ -299,7 +299,7 @@ module _ (w : Workload) (from clock : ℕ) (letter : Letter) where
           go (answered e) = about_answered e does phase a
 
       no_end : ComesHome t k → Does t k m p b outs → Taken t k asks rest → ((request : Request) → asks ≡ letters.CommitAsk t request ∷ rest → ⊥) → has_waited p t ≡ false → (has_waited b t ≡ true) ⊎ IsAsked w from letter t → ⊥
-      no_end comes does taken_so never unwaited why = elim why [ inl waited ↦ now waited does | inr (j, (of, (request, is))) ↦ asks_it_now request (let here : j ≡ k = comes j of (subst (IsAskOf t) (sym is) (same_self t.0)) in of ∙ ap (λ n. n + 2) here) is taken_so ]
+      no_end comes does taken_so never unwaited why = elim why [ inl waited ↦ now waited does | inr (request, (j, (of, is))) ↦ asks_it_now request (let here : j ≡ k = comes j of (subst (IsAskOf t) (sym is) (same_self t.0)) in of ∙ ap (λ n. n + 2) here) is taken_so ]
         where
           asks_it_now : (request : Request) → from ≡ k + 2 → letter.message ≡ letters.CommitAsk t request → Taken t k asks rest → ⊥
           asks_it_now request of is (left n e) = n of

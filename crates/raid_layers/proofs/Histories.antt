@@ -1,5 +1,5 @@
 -- What a history with one more entry says of a transaction's reads and waits.
-use Rattle.std.proofs.Common.{◌≡◌, inl, inr, ℕ, ◌≤◌, nat_lt, Bool, true, false, ◌&&◌, ◌||◌, List, [], ◌∷◌, ◌++◌, fold, filter, filter_map, Option, Some, None, if◌then◌else◌, sym, subst, ap, ◌∙◌, refl}
+use Rattle.std.proofs.Common.{◌≡◌, ◌⊎◌, inl, inr, ℕ, ◌≤◌, nat_lt, Bool, true, false, ◌&&◌, ◌||◌, List, [], ◌∷◌, ◌++◌, fold, filter, filter_map, Option, Some, None, if◌then◌else◌, sym, subst, ap, ◌∙◌, refl}
 use Rattle.std.specs.List.{AllByRecursion, list_any, cons_option}
 use Rattle.std.specs.Option.{option_map_or}
 use Rattle.std.proofs.lemmas.Bool.{and_parts, and_from, true≢false}
@@ -13,12 +13,14 @@ use Rattle.raid_base.specs.declared.entry.Entry.TheVariants.{Read, Wait, Commit,
 use Rattle.raid_base.specs.declared.entry.Noted.{Noted}
 use Rattle.raid_base.specs.Names.{is_txn, is_item, is_site}
 use Rattle.raid_rules.specs.Entries.{is_read, is_commit_of, is_abort_of, is_end_of, is_down, reads_item, wait_of}
-use Rattle.raid_rules.specs.History.{add, next, has_begun, has_committed, has_ended, is_running, is_waiting}
+use Rattle.raid_rules.specs.History.{add, next, has_begun, has_committed, has_ended, is_running, waiting}
 use Rattle.raid_rules.specs.Order.{is_of, IsWhole}
 use Rattle.raid_legal.specs.Seen.{has_down_after}
 use Rattle.raid_legal.specs.Legal.{last_read, is_lost}
 use Rattle.raid_message.specs.declared.letter.Message.{Message}
 use Rattle.raid_message.specs.declared.letter.Message.TheVariants as letters
+use Rattle.raid_sessions.proofs.Lists.{same_self}
+use Rattle.raid_moves.proofs.Places.{all_kept}
 use Rattle.raid_asks.proofs.Facts.{or_left, or_right, or_parts, any_weaken}
 use Rattle.raid_layers.specs.Asks.{has_read, is_wait_of, has_waited, IsTimely}
 
@@ -104,33 +106,27 @@ last_within k t p a n q = from None p (λ m e. absurd (cc e)) a n q
         go true n e = (let same : m ≡ n = cc e in subst (λ (z : Noted). z.at ≤ k) same a.0)
         go false n e = h n e
 
--- who waits was made to wait
-pub waits_waited : (p : List Noted) (t : Txn) → is_waiting p t ≡ true → has_waited p t ≡ true
-waits_waited p t q = among p (kept (λ r. is_running p r.0) (filter_map (λ n. wait_of n.entry) p) q)
-  where
-    kept : (test : Txn × Request → Bool) (rs : List (Txn × Request)) → list_any (λ r. is_txn t r.0) (filter test rs) ≡ true → list_any (λ (r : Txn × Request). is_txn t r.0) rs ≡ true
-    kept test [] h = h
-    kept test (r ∷ rs) h = go (test r) h (kept test rs)
-      where
-        go : (b : Bool) → list_any (λ (r : Txn × Request). is_txn t r.0) (if b then r ∷ filter test rs else filter test rs) ≡ true → (list_any (λ (r : Txn × Request). is_txn t r.0) (filter test rs) ≡ true → list_any (λ (r : Txn × Request). is_txn t r.0) rs ≡ true) →
-            (is_txn t r.0 || list_any (λ (r : Txn × Request). is_txn t r.0) rs) ≡ true
-        go true h rest = elim (or_parts (is_txn t r.0) (list_any (λ (r : Txn × Request). is_txn t r.0) (filter test rs)) h) [
-          | inl here ↦ or_left (is_txn t r.0) (list_any (λ (r : Txn × Request). is_txn t r.0) rs) here
-          | inr there ↦ or_right (is_txn t r.0) (list_any (λ (r : Txn × Request). is_txn t r.0) rs) (rest there)
-        ]
-        go false h rest = or_right (is_txn t r.0) (list_any (λ (r : Txn × Request). is_txn t r.0) rs) (rest h)
+-- the history has a Wait of the transaction with this request
+abbrev pub HasWait : List Noted → Txn → Request → Type 0
+HasWait [] t request = ⊥
+HasWait (n ∷ p) t request = (n.entry ≡ Wait t request) ⊎ HasWait p t request
 
-    among : (p : List Noted) → list_any (λ (r : Txn × Request). is_txn t r.0) (filter_map (λ n. wait_of n.entry) p) ≡ true → has_waited p t ≡ true
-    among [] h = h
-    among (n ∷ p) h = go n.entry h (among p)
+pub wait_waited : (p : List Noted) (t : Txn) (request : Request) → HasWait p t request → has_waited p t ≡ true
+wait_waited [] t request h = absurd h
+wait_waited (n ∷ p) t request (inl is) = or_left (is_wait_of t n.entry) (has_waited p t) (ap (is_wait_of t) is ∙ same_self t.0)
+wait_waited (n ∷ p) t request (inr more) = or_right (is_wait_of t n.entry) (has_waited p t) (wait_waited p t request more)
+
+-- each request that waits was made to
+pub all_wait : (p : List Noted) → AllByRecursion (λ (r : Txn × Request). HasWait p r.0 r.1) (waiting p)
+all_wait p = all_kept (λ (r : Txn × Request). HasWait p r.0 r.1) (λ (r : Txn × Request). is_running p r.0) (filter_map (λ n. wait_of n.entry) p) (all_in p p (λ t r h. h))
+  where
+    all_in : (p q : List Noted) → ((t : Txn) (r : Request) → HasWait p t r → HasWait q t r) → AllByRecursion (λ (r : Txn × Request). HasWait q r.0 r.1) (filter_map (λ n. wait_of n.entry) p)
+    all_in [] q f = tt
+    all_in (n ∷ p) q f = go n.entry refl (all_in p q (λ t r h. f t r (inr h)))
       where
-        go : (e : Entry) → list_any (λ (r : Txn × Request). is_txn t r.0) (cons_option (wait_of e) (filter_map (λ n. wait_of n.entry) p)) ≡ true → (list_any (λ (r : Txn × Request). is_txn t r.0) (filter_map (λ n. wait_of n.entry) p) ≡ true → has_waited p t ≡ true) →
-            (is_wait_of t e || has_waited p t) ≡ true
-        go (Wait u request) h rest = elim (or_parts (is_txn t u) (list_any (λ (r : Txn × Request). is_txn t r.0) (filter_map (λ n. wait_of n.entry) p)) h) [
-          | inl here ↦ or_left (is_txn t u) (has_waited p t) here
-          | inr there ↦ or_right (is_txn t u) (has_waited p t) (rest there)
-        ]
-        go other h rest = rest h
+        go : (e : Entry) → n.entry ≡ e → AllByRecursion (λ (r : Txn × Request). HasWait q r.0 r.1) (filter_map (λ n. wait_of n.entry) p) → AllByRecursion (λ (r : Txn × Request). HasWait q r.0 r.1) (cons_option (wait_of e) (filter_map (λ n. wait_of n.entry) p))
+        go (Wait t r) is rest = (f t r (inl is), rest)
+        go other is rest = rest
 
 -- a transaction that hasn't begun has done nothing
 module _ (p : List Noted) (whole : IsWhole p) (t : Txn) (fresh : has_begun p t ≡ false) where

@@ -1,5 +1,5 @@
 -- The sequencer's step in two parts: a Read or a Wait that the letter asks for, if it does; and then entries that are neither.
-use Rattle.std.proofs.Common.{◌≡◌, ◌⊎◌, inl, inr, ℕ, zero, suc, ◌+◌, ◌==◌, nat_lt, nat_le, Bool, true, false, not, ◌&&◌, ◌||◌, List, [], ◌∷◌, ◌++◌, map, filter, Option, Some, None, if◌then◌else◌, arith, sym, refl, append-nil}
+use Rattle.std.proofs.Common.{◌≡◌, ◌⊎◌, inl, inr, ℕ, zero, suc, ◌+◌, ◌==◌, nat_lt, nat_le, Bool, true, false, not, ◌&&◌, ◌||◌, List, [], ◌∷◌, ◌++◌, map, filter, Option, Some, None, if◌then◌else◌, arith, sym, ap, ◌∙◌, refl, append-nil}
 use Rattle.std.specs.Prelude.{⊤, flat_map, filter_map, slice_get, option_map, option_and_then}
 use Rattle.std.specs.List.{AllByRecursion, list_any, cons_option}
 use Rattle.std.specs.Option.{option_map_or}
@@ -40,40 +40,40 @@ use Rattle.raid_steps.specs.Sequencer.{so_far, place, place_if, settle_from, set
 use Rattle.raid_asks.proofs.Facts.{or_left, or_right}
 use Rattle.raid_asks.proofs.Steps.{AreOther}
 use Rattle.raid_layers.specs.Asks.{has_waited}
-use Rattle.raid_layers.proofs.Histories.{waits_waited}
-
--- a forced Commit is of who was made to wait
-abbrev WasWaiting : List Noted → Entry → Type 0
-WasWaiting p (Commit t request applied) = has_waited p t ≡ true
-WasWaiting p other = ⊤
-
-abbrev Opt : List Noted → Option Entry → Type 0
-Opt p None = ⊤
-Opt p (Some e) = WasWaiting p e
-
-when : (p : List Noted) (b : Bool) (e : Entry) → WasWaiting p e → Opt p (if b then Some e else None)
-when p true e h = h
-when p false e h = tt
+use Rattle.raid_layers.proofs.Histories.{HasWait, all_wait}
 
 module _ (w : Workload) where
-  answered_waits : (p : List Noted) (t : Txn) (r : Request) → has_waited p t ≡ true → Opt p (answer_commit w p t r)
-  answered_waits p t r h = answers (site_refusal w p r)
+  -- a Commit that answers what was made to wait
+  abbrev WasWaiting : List Noted → Entry → Type 0
+  WasWaiting p (Commit t request applied) = (answer_commit w p t request ≡ Some (Commit t request applied)) × HasWait p t request
+  WasWaiting p other = ⊤
+
+  abbrev Opt : List Noted → Option Entry → Type 0
+  Opt p None = ⊤
+  Opt p (Some e) = WasWaiting p e
+
+  when : (p : List Noted) (b : Bool) (e : Entry) → WasWaiting p e → Opt p (if b then Some e else None)
+  when p true e h = h
+  when p false e h = tt
+
+  answered_waits : (p : List Noted) (t : Txn) (r : Request) → HasWait p t r → Opt p (answer_commit w p t r)
+  answered_waits p t r h = answers (site_refusal w p r) refl
     where
-      decides : (v : Verdict) → Opt p (decided w p t r v)
-      decides (verdicts.Reject why) = tt
-      decides verdicts.Grant = h
-      decides verdicts.Wait = go (is_waiting p t) (closes_waits w p t r)
+      decides : (v : Verdict) → site_refusal w p r ≡ None → verdict w p (writing t (stamp p t) r.writes) ≡ v → Opt p (decided w p t r v)
+      decides (verdicts.Reject why) none is = tt
+      decides verdicts.Grant none is = (ap (answered w p t r) none ∙ ap (decided w p t r) is, h)
+      decides verdicts.Wait none is = go (is_waiting p t) (closes_waits w p t r)
         where
           go : (a b : Bool) → Opt p (if a then None else if b then Some (Abort t causes.Deadlock (acts.Commit r)) else Some (Wait t r))
           go true b = tt
           go false true = tt
           go false false = tt
 
-      answers : (o : Option Cause) → Opt p (answered w p t r o)
-      answers (Some why) = tt
-      answers None = decides (verdict w p (writing t (stamp p t) r.writes))
+      answers : (o : Option Cause) → site_refusal w p r ≡ o → Opt p (answered w p t r o)
+      answers (Some why) is = tt
+      answers None is = decides (verdict w p (writing t (stamp p t) r.writes)) is refl
 
-  woken_waits : (p : List Noted) (rs : List (Txn × Request)) → AllByRecursion (λ (r : Txn × Request). has_waited p r.0 ≡ true) rs → Opt p (slice_get (filter_map (λ (r : Txn × Request). answer_commit w p r.0 r.1) rs) 0)
+  woken_waits : (p : List Noted) (rs : List (Txn × Request)) → AllByRecursion (λ (r : Txn × Request). HasWait p r.0 r.1) rs → Opt p (slice_get (filter_map (λ (r : Txn × Request). answer_commit w p r.0 r.1) rs) 0)
   woken_waits p [] a = tt
   woken_waits p (r ∷ rs) a = go (answer_commit w p r.0 r.1) (answered_waits p r.0 r.1 a.0) (woken_waits p rs a.1)
     where
@@ -101,29 +101,22 @@ module _ (w : Workload) where
   on_waits p f None = tt
   on_waits p f (Some s) = when p (nat_le s.trigger (ends p) && not (is_joint f)) (SwitchOn (f.switches + 1) s.kind s.method) tt
 
-  all_waiting : (p : List Noted) (rs : List (Txn × Request)) → ((t : Txn) → list_any (λ (r : Txn × Request). is_txn t r.0) rs ≡ true → has_waited p t ≡ true) → AllByRecursion (λ (r : Txn × Request). has_waited p r.0 ≡ true) rs
-  all_waiting p [] h = tt
-  all_waiting p (r ∷ rs) h = (h r.0 (or_left (is_txn r.0 r.0) _ (self r.0.0)), all_waiting p rs (λ t q. h t (or_right (is_txn t r.0) _ q)))
-    where
-      self : (n : ℕ) → (n == n) ≡ true
-      self n = grind arith
-
   forced_waits : (p : List Noted) → Opt p (forced w p)
   forced_waits p =
       let f = in_force w p in
       first_waits p (home_down w p) (switch_off p f) (switch_end w p f) (switch_on w p f) (woken w p) (off_waits p causes.HomeDown _) (off_waits p (causes.SwitchOff f.switches) _)
-      (when p (end_due w p) (SwitchEnd f.switches) tt) (on_waits p f (slice_get w.switches f.switches)) (woken_waits p (waiting p) (all_waiting p (waiting p) (λ t q. waits_waited p t q)))
+      (when p (end_due w p) (SwitchEnd f.switches) tt) (on_waits p f (slice_get w.switches f.switches)) (woken_waits p (waiting p) (all_wait p))
 
   module _ (from : ℕ) (letter : Letter) where
-    -- a site asks in the letter to commit the transaction
-    abbrev pub IsAsked : Txn → Type 0
-    IsAsked t = (k : ℕ) × ((from ≡ k + 2) × ((request : Request) × (letter.message ≡ letters.CommitAsk t request)))
+    -- a site asks in the letter to commit the transaction, with this request
+    abbrev pub IsAskedFor : Txn → Request → Type 0
+    IsAskedFor t request = (k : ℕ) × ((from ≡ k + 2) × (letter.message ≡ letters.CommitAsk t request))
 
-    -- neither a Read nor a Wait; and a Commit is of who runs and was made to wait, or asks for it in the letter
+    -- neither a Read nor a Wait; and a Commit is of who runs, and answers a request that was made to wait, or that the letter makes
     abbrev pub IsLater : List Noted → Entry → Type 0
     IsLater p (Read t x s) = ⊥
     IsLater p (Wait t request) = ⊥
-    IsLater p (Commit t request applied) = (is_running p t ≡ true) × ((has_waited p t ≡ true) ⊎ (IsAsked t))
+    IsLater p (Commit t request applied) = (is_running p t ≡ true) × ((answer_commit w p t request ≡ Some (Commit t request applied)) × (HasWait p t request ⊎ IsAskedFor t request))
     IsLater p other = ⊤
 
     -- such entries, one after the other, and other letters
@@ -149,7 +142,7 @@ module _ (w : Workload) where
 
     settle_later : (p : List Noted) (e : Entry) → Compels w p e → WasWaiting p e → IsLater p e
     settle_later p (Abort t cause act) c h = tt
-    settle_later p (Commit t request applied) c h = (c, inl h)
+    settle_later p (Commit t request applied) c h = (c, (h.0, inl h.1))
     settle_later p (SwitchOn k kind method) c h = tt
     settle_later p (SwitchEnd k) c h = tt
     settle_later p other c h = absurd c
@@ -230,24 +223,24 @@ module _ (w : Workload) where
     read_opens k turn t ask x of q (Some s) verdicts.Grant = (place w ask turn (Read t x s), (reads k t ask x s of q, done))
 
     commit_opens : (k : ℕ) (turn : Turn Sequencer) (t : Txn) (r : Request) → from ≡ k + 2 → letter.message ≡ letters.CommitAsk t r → is_free (so_far turn) t ≡ true → Opens turn (place_if w 0 turn (answer_commit w (so_far turn) t r))
-    commit_opens k turn t r of q free = answers (site_refusal w p r)
+    commit_opens k turn t r of q free = answers (site_refusal w p r) refl
       where
         p : List Noted
         p = so_far turn
 
-        decides : (v : Verdict) → Opens turn (place_if w 0 turn (decided w p t r v))
-        decides (verdicts.Reject why) = chained (one 0 turn _ tt)
-        decides verdicts.Grant = chained (one 0 turn _ ((and_parts (is_running p t) (not (is_waiting p t)) free).0, inr (k, (of, (r, q)))))
-        decides verdicts.Wait = go (is_waiting p t) (closes_waits w p t r)
+        decides : (v : Verdict) → site_refusal w p r ≡ None → verdict w p (writing t (stamp p t) r.writes) ≡ v → Opens turn (place_if w 0 turn (decided w p t r v))
+        decides (verdicts.Reject why) none is = chained (one 0 turn _ tt)
+        decides verdicts.Grant none is = chained (one 0 turn _ ((and_parts (is_running p t) (not (is_waiting p t)) free).0, (ap (answered w p t r) none ∙ ap (decided w p t r) is, inr (k, (of, q)))))
+        decides verdicts.Wait none is = go (is_waiting p t) (closes_waits w p t r)
           where
             go : (a b : Bool) → Opens turn (place_if w 0 turn (if a then None else if b then Some (Abort t causes.Deadlock (acts.Commit r)) else Some (Wait t r)))
             go true b = chained done
             go false true = chained (one 0 turn (Abort t causes.Deadlock (acts.Commit r)) tt)
             go false false = (place w 0 turn (Wait t r), (waits k t r of q, done))
 
-        answers : (o : Option Cause) → Opens turn (place_if w 0 turn (answered w p t r o))
-        answers (Some why) = chained (one 0 turn (Abort t why (acts.Commit r)) tt)
-        answers None = decides (verdict w p (writing t (stamp p t) r.writes))
+        answers : (o : Option Cause) → site_refusal w p r ≡ o → Opens turn (place_if w 0 turn (answered w p t r o))
+        answers (Some why) is = chained (one 0 turn (Abort t why (acts.Commit r)) tt)
+        answers None is = decides (verdict w p (writing t (stamp p t) r.writes)) is refl
 
     row_opens : (turn : Turn Sequencer) (k : ℕ) (m : Message) → letter.message ≡ m → from ≡ k + 2 → Opens turn (rows.site_row w turn (site (k + 1)) letter.from m)
     row_opens turn k letters.Hello q of = chained (hellos turn (site (k + 1)) letter.from)

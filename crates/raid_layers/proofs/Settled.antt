@@ -5,6 +5,7 @@ use Rattle.std.specs.List.{AllByRecursion, list_any}
 use Rattle.std.proofs.lemmas.Bool.{and_parts, and_from, true≢false}
 use Rattle.raid_base.specs.declared.names.Txn.{Txn}
 use Rattle.raid_base.specs.declared.names.Site.{Site}
+use Rattle.raid_base.specs.declared.request.Request.{Request}
 use Rattle.raid_base.specs.declared.entry.Entry.{Entry}
 use Rattle.raid_base.specs.declared.entry.Entry.TheVariants.{Read, Wait, Commit, Abort, Down, Up}
 use Rattle.raid_base.specs.declared.entry.Noted.{Noted}
@@ -24,8 +25,8 @@ use Rattle.raid_steps.specs.Sequencer.{so_far, place}
 use Rattle.raid_sessions.proofs.Lists.{all_append, all_weaken}
 use Rattle.raid_asks.proofs.Steps.{IsOther, AreOther}
 use Rattle.raid_layers.specs.Asks.{has_waited, is_wait_of, Claim, HoldsOf}
-use Rattle.raid_layers.proofs.Histories.{Grows, IsQuiet, quiet_same, quiet_on, quiet_push, any_push, any_last, any_kept}
-use Rattle.raid_layers.proofs.Opening.{IsAsked, IsLater, Chain, done, places, sends}
+use Rattle.raid_layers.proofs.Histories.{Grows, IsQuiet, quiet_same, quiet_on, quiet_push, any_push, any_last, any_kept, wait_waited}
+use Rattle.raid_layers.proofs.Opening.{IsAskedFor, IsLater, Chain, done, places, sends}
 use Rattle.raid_layers.proofs.Tokens.{SentHolds}
 
 -- no token; and a note that a site is down comes after it went down, and that was after the first of two histories
@@ -94,9 +95,13 @@ module _ (w : Workload) where
     sends_calm p ask (Up s n) y = (tt, notes_calm p (add p (Up s n)) (vector w (add p (Up s n))) (letters.UpNote s n) (filter (λ r. is_up w (add p (Up s n)) r && not (is_site s r)) (sites w)) tt)
     sends_calm p ask other y = tt
 
+    -- a site asks in the letter to commit the transaction
+    abbrev pub IsAsked : Txn → Type 0
+    IsAsked t = (request : Request) × IsAskedFor w from letter t request
+
     -- why a transaction has committed in the second history
     abbrev pub Committed : List Noted → List Noted → Txn → Type 0
-    Committed p q t = (has_committed p t ≡ true) ⊎ ((has_ended p t ≡ false) × ((has_waited p t ≡ true) ⊎ (IsAsked w from letter t)))
+    Committed p q t = (has_committed p t ≡ true) ⊎ ((has_ended p t ≡ false) × ((has_waited p t ≡ true) ⊎ IsAsked t))
 
     pub record Settled (p q : List Noted) (outs : List Out) : Type 0 where
       pub grows : Grows p q
@@ -153,7 +158,7 @@ module _ (w : Workload) where
         commits e y t true q r = inl q
         commits (Commit u request applied) y t false q r =
             let same : u ≡ t = same_txn u t r in
-            inr (subst (λ z. (has_ended p z ≡ false) × ((has_waited p z ≡ true) ⊎ (IsAsked w from letter z))) same (not_both u y.0 (has_ended p u) refl, y.1))
+            inr (subst (λ z. (has_ended p z ≡ false) × ((has_waited p z ≡ true) ⊎ IsAsked z)) same (not_both u y.0 (has_ended p u) refl, elim y.1.1 [ | inl wait ↦ inl (wait_waited p u request wait) | inr asked ↦ inr (request, asked) ]))
         commits other y t false q r = absurd (true≢false (sym r))
 
     others_settled : (p : List Noted) (outs : List Out) → AreOther outs → Settled p p outs
