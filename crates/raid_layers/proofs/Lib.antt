@@ -1,0 +1,12 @@
+pub mod AtSequencer
+pub mod AtSite
+pub mod Histories
+pub mod Laws
+pub mod Opening
+pub mod Runs
+pub mod Settled
+pub mod SiteTokens
+pub mod SiteWorlds
+pub mod Tokens
+pub mod Turns
+pub mod Worlds
