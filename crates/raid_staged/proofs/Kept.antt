@@ -1,0 +1,128 @@
+-- What is staged at a site for a transaction that isn't over stays staged through the site's steps, until it stops.
+use Rattle.std.proofs.Common.{◌≡◌, ◌⊎◌, inl, inr, ℕ, ℤ, zero, suc, ◌+◌, ◌==◌, Bool, true, false, not, ◌&&◌, ◌||◌, List, [], ◌∷◌, ◌++◌, filter, Option, Some, None, if◌then◌else◌, arith, sym, subst, ap, ◌∙◌, refl}
+use Rattle.std.specs.List.{AllByRecursion, list_any}
+use Rattle.std.proofs.lemmas.Bool.{and_parts, eqb-true, true≢false}
+use Rattle.std.proofs.lemmas.List.Folds.{list_any-append}
+use Rattle.raid_base.specs.declared.names.Txn.{Txn}
+use Rattle.raid_base.specs.declared.names.Item.{Item}
+use Rattle.raid_base.specs.declared.entry.Entry.{Entry}
+use Rattle.raid_base.specs.declared.entry.Entry.TheVariants.{Commit}
+use Rattle.raid_base.specs.declared.entry.Noted.{Noted}
+use Rattle.raid_base.specs.Names.{is_txn}
+use Rattle.raid_base.specs.Sites.{site}
+use Rattle.raid_program.specs.Run.{put}
+use Rattle.raid_workload.specs.declared.workload.Workload.{Workload}
+use Rattle.raid_rules.specs.Entries.{is_abort_of, is_commit_of, is_end_of}
+use Rattle.raid_rules.specs.History.{has_aborted, has_committed, has_ended}
+use Rattle.raid_rules.proofs.Push.{same_txn}
+use Rattle.raid_legal.specs.Seen.{holds_some}
+use Rattle.raid_message.specs.declared.letter.Message.TheVariants as letters
+use Rattle.raid_message.specs.declared.letter.Letter.{Letter}
+use Rattle.raid_steps.specs.State.{Turn, opened, tell, Running, SiteState}
+use Rattle.raid_steps.specs.Copies.{unstage, stage}
+use Rattle.raid_steps.specs.Programs as programs
+use Rattle.raid_steps.specs.Site.{hear_site}
+use Rattle.raid_moves.specs.Moves as parts
+use Rattle.raid_moves.specs.Moves.{Ascend, Tells, comes_to, Goes, fresh, Row, next_of, passed, Move, Moves}
+use Rattle.raid_asks.proofs.Facts.{or_left, or_right, any_weaken}
+use Rattle.raid_letters.specs.Says.{is_applied, was_applied, NoteSays}
+use Rattle.raid_layers.proofs.Histories.{committed_ended}
+use Rattle.raid_staged.specs.Staged.{is_staged}
+
+abbrev Pairs : Type 0
+Pairs = Txn × List (Item × ℤ)
+
+abbrev pub staged_in : Txn → List (Txn × List (Item × ℤ)) → Bool
+staged_in t staged = list_any (λ (e : Txn × List (Item × ℤ)). is_txn t e.0) staged
+
+-- others are left where one is taken away, and where one is put
+pub unstaged_other : (t u : Txn) (staged : List (Txn × List (Item × ℤ))) → is_txn t u ≡ false → staged_in t staged ≡ true → staged_in t (unstage u staged) ≡ true
+unstaged_other t u [] d h = absurd (true≢false (sym h))
+unstaged_other t u (e ∷ staged) d h = go (e.0.0 == u.0) (e.0.0 == t.0) refl refl h (unstaged_other t u staged d)
+  where
+    both : (a b c : ℕ) → (a == b) ≡ true → (a == c) ≡ true → (b == c) ≡ true
+    both a b c q r = grind (arith, q, r)
+
+    go : (b c : Bool) → (e.0.0 == u.0) ≡ b → (e.0.0 == t.0) ≡ c → (c || staged_in t staged) ≡ true → (staged_in t staged ≡ true → staged_in t (unstage u staged) ≡ true) → staged_in t (if not b then e ∷ unstage u staged else unstage u staged) ≡ true
+    go true true q r h rest = absurd (true≢false (sym (both e.0.0 u.0 t.0 q r) ∙ d))
+    go true false q r h rest = rest h
+    go false true q r h rest = or_left (e.0.0 == t.0) (staged_in t (unstage u staged)) r
+    go false false q r h rest = or_right (e.0.0 == t.0) (staged_in t (unstage u staged)) (rest h)
+
+pub staged_now : (u : Txn) (ps : List (Item × ℤ)) (staged : List (Txn × List (Item × ℤ))) → staged_in u (stage u ps staged) ≡ true
+staged_now u ps staged = list_any-append (λ (e : Txn × List (Item × ℤ)). is_txn u e.0) (unstage u staged) ((u, ps) ∷ []) ∙ or_right (staged_in u (unstage u staged)) (is_txn u u || false) (or_left (is_txn u u) false (self u.0))
+  where
+    self : (n : ℕ) → (n == n) ≡ true
+    self n = grind arith
+
+pub still_staged : (t u : Txn) (ps : List (Item × ℤ)) (staged : List (Txn × List (Item × ℤ))) → staged_in t staged ≡ true → staged_in t (stage u ps staged) ≡ true
+still_staged t u ps staged h = go (is_txn t u) refl
+  where
+    go : (b : Bool) → is_txn t u ≡ b → staged_in t (stage u ps staged) ≡ true
+    go true q = subst (λ z. staged_in z (stage u ps staged) ≡ true) (same_txn u t q) (staged_now u ps staged)
+    go false q = list_any-append (λ (e : Txn × List (Item × ℤ)). is_txn t e.0) (unstage u staged) ((u, ps) ∷ []) ∙ or_left (staged_in t (unstage u staged)) (is_txn t u || false) (unstaged_other t u staged q h)
+
+module _ (w : Workload) (p : List Noted) (k : ℕ) (state : SiteState) (from : ℕ) (letter : Letter) (note : from ≡ 1 → NoteSays w p (site (k + 1)) letter.to letter.message) (t : Txn) (alive : has_ended p t ≡ false) where
+  abbrev pub IsKept : Turn SiteState → Type 0
+  IsKept turn = is_staged t turn.state ≡ true
+
+  goes_keep : (turn : Turn SiteState) (r : Running) {after : Turn SiteState} → Goes w turn r after → IsKept turn → IsKept after
+  goes_keep turn r (parts.reads_next x e) h = h
+  goes_keep turn r (parts.prepares e) h = go (holds_some w (comes_to w r).writes turn.state.site)
+    where
+      go : (b : Bool) → (let s : SiteState = (if b then record (turn.state) { staged = stage r.txn (programs.held_by w turn.state.site (comes_to w r).writes) turn.state.staged } else turn.state) in is_staged t s) ≡ true
+      go true = still_staged t r.txn (programs.held_by w turn.state.site (comes_to w r).writes) turn.state.staged h
+      go false = h
+  goes_keep turn r (parts.stops e) h = h
+  goes_keep turn r (parts.overflows e) h = h
+
+  pub move_keeps : {turn after : Turn SiteState} → Move w state from letter turn after → IsKept turn → IsKept after
+  move_keeps {turn = turn} (parts.begins s n l g) h = goes_keep (tell (passed w turn) (letters.Begin (next_of turn))) (fresh (next_of turn)) g h
+  move_keeps (parts.asks r i x s o f q m y) h = h
+  move_keeps (parts.loses r told_reads writes awaited s f q m) h = h
+  move_keeps (parts.joins r told_reads writes awaited s n f q m y) h = h
+  move_keeps (parts.commits r told_reads writes f q m) h = h
+
+  pub moves_keep : {turn last : Turn SiteState} → Moves w state from letter turn last → IsKept turn → IsKept last
+  moves_keep parts.done h = h
+  moves_keep (parts.moves m rest) h = moves_keep rest (move_keeps m h)
+
+  -- those whose writes are applied or dropped are over
+  over_not : (u : Txn) → has_ended p u ≡ true → is_txn t u ≡ false
+  over_not u over = go (is_txn t u) refl
+    where
+      go : (b : Bool) → is_txn t u ≡ b → b ≡ false
+      go true q = absurd (true≢false (sym over ∙ subst (λ z. has_ended p z ≡ false) (sym (same_txn u t q)) alive))
+      go false q = refl
+
+  applied_over : (u : Txn) (number : ℕ) → was_applied p u (site (k + 1)) number ≡ true → has_ended p u ≡ true
+  applied_over u number h = committed_ended p u (any_weaken (λ n. (n.at == number) && is_applied u (site (k + 1)) n.entry) (λ n. is_commit_of u n.entry) (λ n q. commit n.entry (n.at == number) q) p h)
+    where
+      commit : (e : Entry) (b : Bool) → (b && is_applied u (site (k + 1)) e) ≡ true → is_commit_of u e ≡ true
+      commit (Commit v request sites) true q = (and_parts (is_txn u v) _ q).0
+      commit other true q = absurd (true≢false (sym q))
+      commit e false q = absurd (true≢false (sym q))
+
+  dropped_over : (u : Txn) → has_aborted p u ≡ true → has_ended p u ≡ true
+  dropped_over u h = any_weaken (λ n. is_abort_of u n.entry) (λ n. is_end_of u n.entry) (λ n q. or_right (is_commit_of u n.entry) (is_abort_of u n.entry) q) p h
+
+  pub row_keeps : (from ≡ 0 → ⊥) → {after : Turn SiteState} → Row w state from letter after → is_staged t state ≡ true → IsKept after
+  row_keeps some (parts.halts u f e) h = absurd (some f)
+  row_keeps some (parts.returns u f e) h = absurd (some f)
+  row_keeps some (parts.refuses i u writes v f l e) h = h
+  row_keeps some (parts.idle i) h = h
+  row_keeps some (parts.welcomed v z e) h = h
+  row_keeps some (parts.served u ask x s z c e q o) h = h
+  row_keeps some (parts.notes r ask x q s f ph e) h = h
+  row_keeps some (parts.applied u number ps e q) h = unstaged_other t u state.staged (over_not u (applied_over u number (subst (NoteSays w p (site (k + 1)) letter.to) e.is (note e.by)))) h
+  row_keeps some (parts.over u e) h = h
+  row_keeps some (parts.dropped u again e q) h = unstaged_other t u state.staged (over_not u (dropped_over u (subst (NoteSays w p (site (k + 1)) letter.to) e.is (note e.by)))) h
+  row_keeps some (parts.retried u e q g) h =
+      goes_keep (tell (parts.drops state u) (letters.Begin (programs.next_attempt w u))) (fresh (programs.next_attempt w u)) g (unstaged_other t u state.staged (over_not u (dropped_over u (subst (NoteSays w p (site (k + 1)) letter.to) e.is (note e.by)))) h)
+  row_keeps some (parts.falls s e) h = h
+  row_keeps some (parts.rises s z e) h = h
+  row_keeps some (parts.copies x target z c e q) h = h
+  row_keeps some (parts.staged i u writes e) h = still_staged t u writes state.staged h
+  row_keeps some (parts.counts i r told_reads writes awaited f ph e q) h = h
+  row_keeps some (parts.renewed i x v version c e q l) h = h
+  row_keeps some (parts.given r ask x q v f ph g gg) h = goes_keep (opened state) (record r { answers = put r.answers x v }) gg h

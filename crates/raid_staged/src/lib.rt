@@ -1,0 +1,2 @@
+//! That what is asked to be committed was staged, in every run (not yet).
+#![tactic(auto)]
