@@ -1,19 +1,15 @@
 -- In every run, programs ask one thing at a time: they stand where their answers lead, which is all that the steps need to know of them.
-use Rattle.std.proofs.Common.{◌≡◌, ℕ, ℤ, zero, suc, List, [], ◌∷◌, Option, Some, sym, subst}
+use Rattle.std.proofs.Common.{◌≡◌, ℕ, zero, suc, List, [], ◌∷◌, Some, sym, subst}
 use Rattle.std.specs.Prelude.{slice_get}
 use Rattle.std.specs.List.{AllByRecursion}
-use Rattle.raid_base.specs.declared.names.Txn.{Txn}
-use Rattle.raid_base.specs.declared.names.Item.{Item}
-use Rattle.raid_base.specs.declared.names.Site.{Site}
 use Rattle.raid_base.specs.Names.{is_txn}
 use Rattle.raid_program.specs.declared.program.Want.TheVariants as wants
-use Rattle.raid_program.specs.Run.{given, put}
+use Rattle.raid_program.specs.Run.{given}
 use Rattle.raid_program.proofs.Asked.{end_told}
 use Rattle.raid_workload.specs.declared.workload.Workload.{Workload}
 use Rattle.raid_workload.specs.Parts.{program}
 use Rattle.raid_message.specs.declared.letter.Pick.{Pick}
-use Rattle.raid_steps.specs.State.{asking, Running, SiteState}
-use Rattle.raid_steps.specs.Programs.{running_of}
+use Rattle.raid_steps.specs.State.{Running}
 use Rattle.raid_steps.specs.World.{run}
 use Rattle.raid_moves.proofs.Places.{all_found}
 use Rattle.raid_made.specs.Made.{made_of}

@@ -1,7 +1,7 @@
 -- The sequencer's step in two parts: a Read or a Wait that the letter asks for, if it does; and then entries that are neither.
 use Rattle.std.proofs.Common.{◌≡◌, ◌⊎◌, inl, inr, ℕ, zero, suc, ◌+◌, ◌==◌, nat_lt, nat_le, Bool, true, false, not, ◌&&◌, ◌||◌, List, [], ◌∷◌, ◌++◌, map, filter, Option, Some, None, if◌then◌else◌, arith, sym, ap, ◌∙◌, refl, append-nil}
 use Rattle.std.specs.Prelude.{⊤, flat_map, filter_map, slice_get, option_map, option_and_then}
-use Rattle.std.specs.List.{AllByRecursion, list_any, cons_option}
+use Rattle.std.specs.List.{AllByRecursion, cons_option}
 use Rattle.std.specs.Option.{option_map_or}
 use Rattle.std.proofs.lemmas.Bool.{and_parts}
 use Rattle.raid_base.specs.declared.names.Txn.{Txn}
@@ -16,7 +16,6 @@ use Rattle.raid_base.specs.declared.entry.Entry.TheVariants.{Begin, Read, Wait, 
 use Rattle.raid_base.specs.declared.entry.Noted.{Noted}
 use Rattle.raid_base.specs.declared.verdict.Verdict.{Verdict}
 use Rattle.raid_base.specs.declared.verdict.Verdict.TheVariants as verdicts
-use Rattle.raid_base.specs.Names.{is_txn}
 use Rattle.raid_base.specs.Sites.{session, site}
 use Rattle.raid_workload.specs.declared.workload.Workload.{Workload}
 use Rattle.raid_workload.specs.declared.workload.Switch.{Switch}
@@ -37,9 +36,7 @@ use Rattle.raid_steps.specs.State.{Out, Turn, Sequencer, Copying, opened}
 use Rattle.raid_steps.specs.Fits.{knows_site, is_to_sequencer}
 use Rattle.raid_steps.specs.Sequencer as rows
 use Rattle.raid_steps.specs.Sequencer.{so_far, place, place_if, settle_from, settle, finish, hear_sequencer}
-use Rattle.raid_asks.proofs.Facts.{or_left, or_right}
 use Rattle.raid_asks.proofs.Steps.{AreOther}
-use Rattle.raid_layers.specs.Asks.{has_waited}
 use Rattle.raid_layers.proofs.Histories.{HasWait, all_wait}
 
 module _ (w : Workload) where

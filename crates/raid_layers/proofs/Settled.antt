@@ -158,7 +158,7 @@ module _ (w : Workload) where
         commits e y t true q r = inl q
         commits (Commit u request applied) y t false q r =
             let same : u ≡ t = same_txn u t r in
-            inr (subst (λ z. (has_ended p z ≡ false) × ((has_waited p z ≡ true) ⊎ IsAsked z)) same (not_both u y.0 (has_ended p u) refl, elim y.1.1 [ | inl wait ↦ inl (wait_waited p u request wait) | inr asked ↦ inr (request, asked) ]))
+            inr (subst (λ z. (has_ended p z ≡ false) × ((has_waited p z ≡ true) ⊎ IsAsked z)) same (not_both u y.0 (has_ended p u) refl, elim y.1.1 [ inl wait ↦ inl (wait_waited p u request wait) | inr asked ↦ inr (request, asked) ]))
         commits other y t false q r = absurd (true≢false (sym r))
 
     others_settled : (p : List Noted) (outs : List Out) → AreOther outs → Settled p p outs
