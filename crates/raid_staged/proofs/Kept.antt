@@ -62,12 +62,12 @@ still_staged t u ps staged h = go (is_txn t u) refl
     go true q = subst (λ z. staged_in z (stage u ps staged) ≡ true) (same_txn u t q) (staged_now u ps staged)
     go false q = list_any-append (λ (e : Txn × List (Item × ℤ)). is_txn t e.0) (unstage u staged) ((u, ps) ∷ []) ∙ or_left (staged_in t (unstage u staged)) (is_txn t u || false) (unstaged_other t u staged q h)
 
--- the letter neither applies nor drops the transaction
-pub record IsSpared (letter : Letter) (t : Txn) : Type 0 where
-  pub applied : (u : Txn) (number : ℕ) → letter.message ≡ letters.Apply u number → is_txn t u ≡ false
-  pub dropped : (u : Txn) (again : Bool) → letter.message ≡ letters.Drop u again → is_txn t u ≡ false
+-- if the letter is the sequencer's, it neither applies nor drops the transaction
+pub record IsSpared (from : ℕ) (letter : Letter) (t : Txn) : Type 0 where
+  pub applied : from ≡ 1 → (u : Txn) (number : ℕ) → letter.message ≡ letters.Apply u number → is_txn t u ≡ false
+  pub dropped : from ≡ 1 → (u : Txn) (again : Bool) → letter.message ≡ letters.Drop u again → is_txn t u ≡ false
 
-module _ (w : Workload) (state : SiteState) (from : ℕ) (letter : Letter) (t : Txn) (spared : IsSpared letter t) where
+module _ (w : Workload) (state : SiteState) (from : ℕ) (letter : Letter) (t : Txn) (spared : IsSpared from letter t) where
   abbrev pub IsKept : Turn SiteState → Type 0
   IsKept turn = is_staged t turn.state ≡ true
 
@@ -100,11 +100,11 @@ module _ (w : Workload) (state : SiteState) (from : ℕ) (letter : Letter) (t : 
   row_keeps some (parts.welcomed v z e) h = h
   row_keeps some (parts.served u ask x s z c e q o) h = h
   row_keeps some (parts.notes r ask x q s f ph e) h = h
-  row_keeps some (parts.applied u number ps e q) h = unstaged_other t u state.staged (spared.applied u number e.is) h
+  row_keeps some (parts.applied u number ps e q) h = unstaged_other t u state.staged (spared.applied e.by u number e.is) h
   row_keeps some (parts.over u e) h = h
-  row_keeps some (parts.dropped u again e q) h = unstaged_other t u state.staged (spared.dropped u again e.is) h
+  row_keeps some (parts.dropped u again e q) h = unstaged_other t u state.staged (spared.dropped e.by u again e.is) h
   row_keeps some (parts.retried u e q g) h =
-      goes_keep (tell (parts.drops state u) (letters.Begin (programs.next_attempt w u))) (fresh (programs.next_attempt w u)) g (unstaged_other t u state.staged (spared.dropped u true e.is) h)
+      goes_keep (tell (parts.drops state u) (letters.Begin (programs.next_attempt w u))) (fresh (programs.next_attempt w u)) g (unstaged_other t u state.staged (spared.dropped e.by u true e.is) h)
   row_keeps some (parts.falls s e) h = h
   row_keeps some (parts.rises s z e) h = h
   row_keeps some (parts.copies x target z c e q) h = h
@@ -114,7 +114,7 @@ module _ (w : Workload) (state : SiteState) (from : ℕ) (letter : Letter) (t : 
   row_keeps some (parts.given r ask x q v f ph g gg) h = goes_keep (opened state) (record r { answers = put r.answers x v }) gg h
 
 -- a transaction that isn't over is spared
-module _ (w : Workload) (p : List Noted) (k : ℕ) (letter : Letter) (note : NoteSays w p (site (k + 1)) letter.to letter.message) (t : Txn) (alive : has_ended p t ≡ false) where
+module _ (w : Workload) (p : List Noted) (k from : ℕ) (letter : Letter) (note : from ≡ 1 → NoteSays w p (site (k + 1)) letter.to letter.message) (t : Txn) (alive : has_ended p t ≡ false) where
   over_not : (u : Txn) → has_ended p u ≡ true → is_txn t u ≡ false
   over_not u over = go (is_txn t u) refl
     where
@@ -133,8 +133,8 @@ module _ (w : Workload) (p : List Noted) (k : ℕ) (letter : Letter) (note : Not
   dropped_over : (u : Txn) → has_aborted p u ≡ true → has_ended p u ≡ true
   dropped_over u h = any_weaken (λ n. is_abort_of u n.entry) (λ n. is_end_of u n.entry) (λ n q. or_right (is_commit_of u n.entry) (is_abort_of u n.entry) q) p h
 
-  pub alive_spared : IsSpared letter t
+  pub alive_spared : IsSpared from letter t
   alive_spared = record {
-    applied = λ u number is. over_not u (applied_over u number (subst (NoteSays w p (site (k + 1)) letter.to) is note));
-    dropped = λ u again is. over_not u (dropped_over u (subst (NoteSays w p (site (k + 1)) letter.to) is note));
+    applied = λ by u number is. over_not u (applied_over u number (subst (NoteSays w p (site (k + 1)) letter.to) is (note by)));
+    dropped = λ by u again is. over_not u (dropped_over u (subst (NoteSays w p (site (k + 1)) letter.to) is (note by)));
   }

@@ -1,6 +1,6 @@
 -- A step of a home keeps what is staged for its transactions in preparation, so that a commit is asked for once all is.
 use Rattle.std.proofs.Common.{◌≡◌, ◌≢◌, ◌⊎◌, inl, inr, ℕ, ℤ, zero, suc, ◌+◌, ◌-◌, ◌<◌, ◌≤◌, ◌==◌, nat_lt, Bool, true, false, not, ◌&&◌, ◌||◌, List, [], ◌∷◌, ◌++◌, map, find, filter, length, Option, Some, None, if◌then◌else◌, arith, sym, subst, ap, ◌∙◌, refl, append-nil}
-use Rattle.std.specs.Prelude.{⊤, slice_get, slice_set, slice_index}
+use Rattle.std.specs.Prelude.{⊤, slice_get, slice_set, slice_index, fold}
 use Rattle.std.specs.List.{AllByRecursion, list_any}
 use Rattle.std.proofs.lemmas.Bool.{and_parts, and_from, eqb-true, true≢false}
 use Rattle.raid_base.specs.declared.names.Txn.{Txn}
@@ -24,9 +24,13 @@ use Rattle.raid_message.specs.declared.letter.Message.TheVariants as letters
 use Rattle.raid_message.specs.declared.letter.Letter.{Letter}
 use Rattle.raid_steps.specs.State.{Out, Turn, opened, tell, Phase, asking, preparing, sent, Running, SiteState}
 use Rattle.raid_steps.specs.Copies.{stage}
+use Rattle.raid_steps.specs.Fits.{is_of_sequencer, knows_site}
 use Rattle.raid_steps.specs.Programs as programs
 use Rattle.raid_steps.specs.Programs.{put_running, running_of, prepare_out, voters}
-use Rattle.raid_sessions.proofs.Lists.{all_append, all_weaken, same_self, set_most}
+use Rattle.raid_sessions.proofs.Lists.{all_append, all_weaken, at_most, apart, index_other, set_most}
+use Rattle.raid_sessions.proofs.Mail.{same_or_not}
+use Rattle.raid_steps.specs.Site as rows
+use Rattle.raid_steps.specs.Site.{fits_here}
 use Rattle.raid_moves.specs.Moves as parts
 use Rattle.raid_moves.specs.Moves.{Ascend, Hears, Tells, Says, Given, read_here, read_elsewhere, comes_to, Goes, fresh, Begins, Idle, Row, next_of, passed, Move, Moves}
 use Rattle.raid_moves.proofs.Places.{program_of, put_found, put_other}
@@ -243,3 +247,106 @@ module _ (w : Workload) (p : List Noted) (all : List SiteState) (k : ℕ) (state
   pub moves_now : {turn last : Turn SiteState} → Moves w state from letter turn last → Now turn → Now last
   moves_now parts.done n = n
   moves_now (parts.moves m rest) n = moves_now rest (move_now m n)
+
+  -- a program has ended
+  now_ends : (turn after : Turn SiteState) (t : Txn) → Keeps turn.state after.state → after.state.site ≡ turn.state.site → after.state.vector ≡ turn.state.vector →
+      after.state.running ≡ filter (λ (r : Running). not (is_txn t r.txn)) turn.state.running → after.outs ≡ turn.outs → Now turn → Now after
+  now_ends turn after t keeps here v same outs n = record {
+    place = here ∙ n.place;
+    each = λ u r f. each u r (ap (program_of u) (sym same) ∙ f) (t.0 == u.0) refl;
+    sent = subst (AllByRecursion (λ (out : Out). SentOk after.state out.2)) (sym outs) (all_sent turn.state after.state keeps turn.outs n.sent);
+    fallen = λ s tells. ap (λ v. session v s) v ∙ n.fallen s tells;
+  }
+    where
+      left : List Running
+      left = filter (λ (r : Running). not (is_txn t r.txn)) turn.state.running
+
+      each : (u : Txn) (r : Running) → program_of u left ≡ Some r → (b : Bool) → (t.0 == u.0) ≡ b → Ready after.state u r.phase
+      each u r f true e =
+          let its : u ≡ t = ap (λ n. let z : Txn = record { 0 = n } in z) (sym (eqb-true t.0 u.0 e)) in
+          absurd (found_none (filtered_out t turn.state.running) (subst (λ z. program_of z left ≡ Some r) its f))
+        where
+          found_none : {o : Option Running} → o ≡ None → o ≡ Some r → ⊥
+          found_none a b = cc (a, b)
+      each u r f false e = ready_on turn.state after.state keeps v u r.phase (n.each u r (sym (filtered_other t u turn.state.running e) ∙ f))
+
+  module _ (ascend : Ascend state.running) (before : (t : Txn) (r : Running) → running_of state t ≡ Some r → Ready state t r.phase) where
+    -- what the row keeps
+    spared : (t : Txn) → has_ended p t ≡ false → IsSpared from letter t
+    spared t alive = alive_spared w p k from letter note t alive
+
+    row_kept : {after : Turn SiteState} → Row w state from letter after → Keeps state after.state
+    row_kept row t (inl over) = inl over
+    row_kept {after = after} row t (inr h) = go (has_ended p t) refl
+      where
+        go : (b : Bool) → has_ended p t ≡ b → Own t after.state
+        go true q = inl q
+        go false q = inr (row_keeps w state from letter t (spared t q) some row h)
+
+    drop_kept : (u : Txn) (again : Bool) → Tells w state from letter (letters.Drop u again) → Keeps state (parts.drops state u).state
+    drop_kept u again e t (inl over) = inl over
+    drop_kept u again e t (inr h) = go (has_ended p t) refl
+      where
+        go : (b : Bool) → has_ended p t ≡ b → Own t (parts.drops state u).state
+        go true q = inl q
+        go false q = inr (unstaged_other t u state.staged ((spared t q).dropped e.by u again e.is) h)
+
+    -- the letter is no note that a site is down
+    abbrev NoFall : Type 0
+    NoFall = (s : Site) → Tells w state from letter (letters.DownNote s) → ⊥
+
+    by_peer : (i : ℕ) → from ≡ suc (suc i) → NoFall
+    by_peer i by s tells = (let one = tells.by in omega (arith, one, by))
+
+    tells_else : {m : Message} → Tells w state from letter m → ((s : Site) → m ≡ letters.DownNote s → ⊥) → NoFall
+    tells_else e other s tells = other s (sym e.is ∙ tells.is)
+
+    given_else : {t : Txn} {ask : ℕ} {v : ℤ} → Given w state from letter t ask v → NoFall
+    given_else (read_here x h n c e q i) = tells_else e (λ s q. cc q)
+    given_else (read_elsewhere i v e) = by_peer i e.by
+
+    idle_else : Idle w state from letter → NoFall
+    idle_else (parts.down i u by) s tells = true≢false (sym tells.heard.up ∙ u)
+    idle_else (parts.stays_down u by r) s tells = true≢false (sym tells.heard.up ∙ u)
+    idle_else (parts.stays_up u by r) s tells = (let one = tells.by in omega (arith, one, by))
+    idle_else (parts.late u by l) s tells = true≢false (sym tells.heard.meant ∙ l)
+    idle_else (parts.late_peer i u by l r) s tells = by_peer i by s tells
+    idle_else (parts.unfit h by bad) s tells = true≢false (sym tells.fits ∙ subst (λ m. (is_of_sequencer w m && fits_here w state m) ≡ false) tells.is bad)
+    idle_else (parts.unfit_peer i h by bad) s tells = by_peer i by s tells
+    idle_else (parts.unasked t ask v g none) s tells = given_else g s tells
+    idle_else (parts.unserved t ask r e none) s tells = tells_else e (λ s q. cc q) s tells
+    idle_else (parts.refused i t named own e) s tells = by_peer i e.by s tells
+    idle_else (parts.outdated i t e q) s tells = by_peer i e.by s tells
+    idle_else (parts.uncounted i t e none) s tells = by_peer i e.by s tells
+    idle_else (parts.older i x v version c e q l) s tells = by_peer i e.by s tells
+
+    opening : NoFall → Now (opened state)
+    opening none = record { place = at_home; each = before; sent = tt; fallen = λ s tells. absurd (none s tells) }
+
+    ready : (r : Running) {phase : Phase} → running_of state r.txn ≡ Some r → r.phase ≡ phase → Ready state r.txn phase
+    ready r f is = subst (Ready state r.txn) is (before r.txn r f)
+
+    -- places in a vector, counted from 0
+    place_is : (j : ℕ) → (site (j + 1)).0 - 1 ≡ j
+    place_is j = omega arith
+
+    -- a site is down
+    fall_now : (s : Site) → Tells w state from letter (letters.DownNote s) → Now (rows.with_vector (opened state) s 0)
+    fall_now s e = record {
+      place = at_home;
+      each = λ t r f. fall t r.phase (before t r f);
+      sent = tt;
+      fallen = λ r tells. subst (λ (z : Site). session (slice_set state.vector (s.0 - 1) 0) z ≡ 0) (same r (sym e.is ∙ tells.is)) (let most = set_most state.vector (s.0 - 1) 0 in omega (arith, most));
+    }
+      where
+        same : (r : Site) → letters.DownNote s ≡ letters.DownNote r → s ≡ r
+        same r q = cc q
+
+        fall : (t : Txn) (phase : Phase) → Ready state t phase → Ready (rows.with_vector (opened state) s 0).state t phase
+        fall t (asking i x q) h = tt
+        fall t (preparing reads writes awaited) h = (h.0, λ j differ holds none. at j (h.1 j differ holds none) (same_or_not ((site (j + 1)).0 - 1) (s.0 - 1)))
+          where
+            at : (j : ℕ) → IsStagedAt p all t j (session state.vector (site (j + 1))) → ((site (j + 1)).0 - 1 ≡ s.0 - 1) ⊎ ((site (j + 1)).0 - 1 ≢ s.0 - 1) → IsStagedAt p all t j (session (slice_set state.vector (s.0 - 1) 0) (site (j + 1)))
+            at j old (inl here) = nowhere t j _ (ap (slice_index (slice_set state.vector (s.0 - 1) 0)) here ∙ (let most = set_most state.vector (s.0 - 1) 0 in omega (arith, most)))
+            at j old (inr other) = subst (IsStagedAt p all t j) (sym (index_other state.vector (s.0 - 1) ((site (j + 1)).0 - 1) 0 other)) old
+        fall t sent h = tt
