@@ -1,5 +1,5 @@
 -- A step of a home keeps what is staged for its transactions in preparation, so that a commit is asked for once all is.
-use Rattle.std.proofs.Common.{◌≡◌, ◌≢◌, ◌⊎◌, inl, inr, ℕ, ℤ, zero, suc, ◌+◌, ◌-◌, ◌<◌, ◌≤◌, ◌==◌, nat_lt, Bool, true, false, not, ◌&&◌, ◌||◌, List, [], ◌∷◌, ◌++◌, map, find, filter, length, Option, Some, None, if◌then◌else◌, arith, sym, subst, ap, ◌∙◌, refl, append-nil}
+use Rattle.std.proofs.Common.{◌≡◌, ◌≢◌, ◌⊎◌, inl, inr, ℕ, ℤ, zero, suc, ◌+◌, ◌-◌, ◌<◌, ◌≤◌, ◌==◌, nat_lt, nat_le, Bool, true, false, not, ◌&&◌, ◌||◌, List, [], ◌∷◌, ◌++◌, map, find, filter, length, Option, Some, None, if◌then◌else◌, arith, sym, subst, ap, ◌∙◌, refl, append-nil}
 use Rattle.std.specs.Prelude.{⊤, slice_get, slice_set, slice_index, fold}
 use Rattle.std.specs.List.{AllByRecursion, list_any}
 use Rattle.std.proofs.lemmas.Bool.{and_parts, and_from, eqb-true, true≢false}
@@ -22,7 +22,7 @@ use Rattle.raid_legal.specs.Seen.{holds_some}
 use Rattle.raid_message.specs.declared.letter.Message.{Message}
 use Rattle.raid_message.specs.declared.letter.Message.TheVariants as letters
 use Rattle.raid_message.specs.declared.letter.Letter.{Letter}
-use Rattle.raid_steps.specs.State.{Out, Turn, opened, tell, Phase, asking, preparing, sent, Running, SiteState}
+use Rattle.raid_steps.specs.State.{Out, Turn, opened, send, tell, Phase, asking, preparing, sent, Running, SiteState}
 use Rattle.raid_steps.specs.Copies.{stage}
 use Rattle.raid_steps.specs.Fits.{is_of_sequencer, knows_site}
 use Rattle.raid_steps.specs.Programs as programs
@@ -33,12 +33,19 @@ use Rattle.raid_steps.specs.Site as rows
 use Rattle.raid_steps.specs.Site.{fits_here}
 use Rattle.raid_moves.specs.Moves as parts
 use Rattle.raid_moves.specs.Moves.{Ascend, Hears, Tells, Says, Given, read_here, read_elsewhere, comes_to, Goes, fresh, Begins, Idle, Row, next_of, passed, Move, Moves}
-use Rattle.raid_moves.proofs.Places.{program_of, put_found, put_other}
+use Rattle.raid_moves.specs.After.{joined_in, joined}
+use Rattle.raid_moves.proofs.Places.{program_of, nothing, something, put_found, put_other}
+use Rattle.raid_moves.proofs.Steps.{site_moves, sequencer_rows, asks_commits, ascend_row, ascend_moves}
+use Rattle.raid_moves.proofs.Swept.{joined_all, told_is}
 use Rattle.raid_letters.specs.Says.{NoteSays}
 use Rattle.raid_layers.proofs.Turns.{filtered_out, filtered_other}
 use Rattle.raid_staged.specs.Staged.{is_staged, IsStagedAt, AreStaged, VoteStaged, IsPrepared}
-use Rattle.raid_staged.proofs.Kept.{still_staged, staged_now, unstaged_other, IsSpared, row_keeps, move_keeps, alive_spared}
+use Rattle.raid_staged.proofs.Kept.{staged_in, still_staged, staged_now, unstaged_other, IsSpared, row_keeps, move_keeps, alive_spared}
 use Rattle.raid_staged.proofs.Ends.{aborted_ended}
+
+none_runs : (rs : List Running) (t : Txn) (r : Running) → (length rs == 0) ≡ true → program_of t rs ≡ Some r → ⊥
+none_runs [] t r none f = nothing f
+none_runs (q ∷ rs) t r none f = (let e = eqb-true (length (q ∷ rs)) 0 none in omega (arith, e))
 
 half : (a b : Bool) → (a && b) ≡ false → b ≡ true → a ≡ false
 half true b q r = absurd (true≢false (sym r ∙ q))
@@ -350,3 +357,144 @@ module _ (w : Workload) (p : List Noted) (all : List SiteState) (k : ℕ) (state
             at j old (inl here) = nowhere t j _ (ap (slice_index (slice_set state.vector (s.0 - 1) 0)) here ∙ (let most = set_most state.vector (s.0 - 1) 0 in omega (arith, most)))
             at j old (inr other) = subst (IsStagedAt p all t j) (sym (index_other state.vector (s.0 - 1) ((site (j + 1)).0 - 1) 0 other)) old
         fall t sent h = tt
+
+    -- a site is up again: each program joins it, one after the other, and asks for nothing meanwhile
+    record Joined (s : Site) (n : ℕ) (turn : Turn SiteState) : Type 0 where
+      place : turn.state.site ≡ state.site
+      vector : turn.state.vector ≡ slice_set state.vector (s.0 - 1) n
+      staged : turn.state.staged ≡ state.staged
+      sent : (z : SiteState) → AllByRecursion (λ (out : Out). SentOk z out.2) turn.outs
+
+    joins_all : (s : Site) (n : ℕ) (rs : List Running) (turn : Turn SiteState) → Joined s n turn → Joined s n (fold (λ now r. programs.join w s now r r.phase) turn rs)
+    joins_all s n [] turn j = j
+    joins_all s n (r ∷ rs) turn j = joins_all s n rs (programs.join w s turn r r.phase) (one r.phase)
+      where
+        one : (phase : Phase) → Joined s n (programs.join w s turn r phase)
+        one (asking i x q) = j
+        one (preparing reads writes awaited) = joins (holds_some w writes s)
+          where
+            joins : (b : Bool) → Joined s n (if b then send (programs.with_running turn (record r { phase = preparing reads writes (programs.with_vote s awaited) })) (prepare_out w turn.state.vector r.txn writes s) else turn)
+            joins true = record {
+              place = j.place;
+              vector = j.vector;
+              staged = j.staged;
+              sent = λ z. all_append (λ (out : Out). SentOk z out.2) turn.outs (prepare_out w turn.state.vector r.txn writes s ∷ []) (j.sent z) (tt, tt);
+            }
+            joins false = j
+        one sent = j
+
+    joined_found : (s : Site) (t : Txn) (rs : List Running) (r : Running) → program_of t (map (joined w s) rs) ≡ Some r → (q : Running) × ((program_of t rs ≡ Some q) × (joined w s q ≡ r))
+    joined_found s t [] r f = absurd (nothing f)
+    joined_found s t (q ∷ rs) r f = go (q.txn.0 == t.0) refl (subst (λ (z : Txn). (if z.0 == t.0 then Some (joined w s q) else program_of t (map (joined w s) rs)) ≡ Some r) (still q.phase) f) (joined_found s t rs r)
+      where
+        still : (phase : Phase) → (joined_in w s q phase).txn ≡ q.txn
+        still (asking i x z) = refl
+        still (preparing reads writes awaited) = either (holds_some w writes s)
+          where
+            either : (b : Bool) → (if b then record q { phase = preparing reads writes (programs.with_vote s awaited) } else q).txn ≡ q.txn
+            either true = refl
+            either false = refl
+        still sent = refl
+
+        go : (b : Bool) → (q.txn.0 == t.0) ≡ b → (if b then Some (joined w s q) else program_of t (map (joined w s) rs)) ≡ Some r →
+            (program_of t (map (joined w s) rs) ≡ Some r → (z : Running) × ((program_of t rs ≡ Some z) × (joined w s z ≡ r))) → (z : Running) × ((program_of t (q ∷ rs) ≡ Some z) × (joined w s z ≡ r))
+        go true e h rest = (q, (ap (λ b. if b then Some q else program_of t rs) e, something h))
+        go false e h rest = (let found = rest h in (found.0, (ap (λ b. if b then Some q else program_of t rs) e ∙ found.1.0, found.1.1)))
+
+    module _ (s : Site) (n : ℕ) (e : Tells w state from letter (letters.UpNote s n)) where
+      abbrev risen : Turn SiteState
+      risen = rows.up_row w (opened state) s n
+
+      all_joined : Joined s n risen
+      all_joined = joins_all s n state.running (rows.with_vector (opened state) s n) (record { place = refl; vector = refl; staged = refl; sent = λ z. tt })
+
+      -- the sessions of the others are left
+      same_session : (j : ℕ) → is_site s (site (j + 1)) ≡ false → session risen.state.vector (site (j + 1)) ≡ session state.vector (site (j + 1))
+      same_session j other =
+          let known = at_most 1 s.0 (and_parts (nat_le 1 s.0) (nat_le s.0 w.sites) (and_parts (knows_site w s) true e.fits).0).0 in
+          let differ = apart (j + 1) s.0 other (omega arith) known in
+          ap (λ v. session v (site (j + 1))) all_joined.vector ∙ index_other state.vector (s.0 - 1) ((site (j + 1)).0 - 1) n (λ q. differ (sym q))
+
+      own_still : (t : Txn) → Own t state → Own t risen.state
+      own_still t (inl over) = inl over
+      own_still t (inr h) = inr (ap (staged_in t) all_joined.staged ∙ h)
+
+      others_joined : (t : Txn) (writes : List (Item × ℤ)) (awaited : List Site) → Others t state.vector writes awaited → Others t risen.state.vector writes (programs.with_vote s awaited)
+      others_joined t writes awaited others j differ holds none = among (slice_get all j) refl
+        where
+          among : (o : Option SiteState) → slice_get all j ≡ o → IsStagedAt p all t j (session risen.state.vector (site (j + 1)))
+          among None q = inr (λ z at up same last. absurd (cc (q, at)))
+          among (Some z) q = (let both = with_one s awaited j z q none in subst (IsStagedAt p all t j) (sym (same_session j both.1)) (others j differ holds both.0))
+
+      others_left : (t : Txn) (writes : List (Item × ℤ)) (awaited : List Site) → holds_some w writes s ≡ false → Others t state.vector writes awaited → Others t risen.state.vector writes awaited
+      others_left t writes awaited not_held others j differ holds none = subst (IsStagedAt p all t j) (sym (same_session j (other (is_site s (site (j + 1))) refl))) (others j differ holds none)
+        where
+          other : (b : Bool) → is_site s (site (j + 1)) ≡ b → b ≡ false
+          other true q = absurd (true≢false (sym holds ∙ ap (holds_some w writes) (same_site s (site (j + 1)) q) ∙ not_held))
+          other false q = refl
+
+      rise : (t : Txn) (r : Running) (phase : Phase) → r.phase ≡ phase → Ready state t phase → Ready risen.state t (joined_in w s r phase).phase
+      rise t r (asking i x q) is h = subst (Ready risen.state t) (sym is) tt
+      rise t r (preparing reads writes awaited) is h = go (holds_some w writes s) refl
+        where
+          go : (b : Bool) → holds_some w writes s ≡ b → Ready risen.state t (if b then record r { phase = preparing reads writes (programs.with_vote s awaited) } else r).phase
+          go true q = ((λ holds. own_still t (h.0 holds)), others_joined t writes awaited h.1)
+          go false q = subst (Ready risen.state t) (sym is) ((λ holds. own_still t (h.0 holds)), others_left t writes awaited q h.1)
+      rise t r sent is h = subst (Ready risen.state t) (sym is) tt
+
+      rise_now : Now risen
+      rise_now = record {
+        place = all_joined.place ∙ at_home;
+        each = λ t r f. one t r (joined_found s t state.running r (ap (program_of t) (sym (joined_all w s n (opened state) ascend)) ∙ f));
+        sent = all_joined.sent risen.state;
+        fallen = λ q tells. absurd (tells_else e (λ s q. cc q) q tells);
+      }
+        where
+          one : (t : Txn) (r : Running) → (q : Running) × ((program_of t state.running ≡ Some q) × (joined w s q ≡ r)) → Ready risen.state t r.phase
+          one t r (q, (f, is)) = subst (λ (z : Running). Ready risen.state t z.phase) is (rise t q q.phase refl (before t q f))
+
+      -- and then commits are asked for
+      pub rises_now : Now (rows.hear_site w state from letter)
+      rises_now =
+          let reached = sequencer_rows w state from letter ascend (letters.UpNote s n) e in
+          let still = ascend_moves w state from letter (ascend_row w state from letter ascend reached.1.0) reached.1.1 in
+          subst Now (sym (told_is w state from letter (letters.UpNote s n) e)) (moves_now (asks_commits w state from letter e.heard risen still) rise_now)
+
+    -- the whole step
+    row_now : {after : Turn SiteState} → Row w state from letter after → Moves w state from letter after (rows.hear_site w state from letter) → Now (rows.hear_site w state from letter)
+    row_now (parts.halts u f e) rest = absurd (some f)
+    row_now (parts.returns u f e) rest = absurd (some f)
+    row_now (parts.refuses i u writes v f l e) rest = moves_now rest (now_sends (opened state) _ ((i + 2, letter.from, letters.Vote u (No letter.to state.session)) ∷ []) (kept_same state) refl refl refl refl (tt, tt) (opening (by_peer i f)))
+    row_now (parts.idle i) rest = moves_now rest (opening (idle_else i))
+    row_now (parts.welcomed v z e) rest = moves_now rest (record {
+      place = at_home;
+      each = λ t r f. absurd (none_runs state.running t r (and_parts (is_of_sequencer w (letters.Welcome v z)) (length state.running == 0) e.fits).1 f);
+      sent = tt;
+      fallen = λ s tells. absurd (tells_else e (λ s q. cc q) s tells);
+    })
+    row_now (parts.served u ask x h z c e q o) rest = moves_now rest (now_sends (opened state) _ ((h.0 + 1, z, letters.Value u ask c.value) ∷ []) (kept_same state) refl refl refl refl (tt, tt) (opening (tells_else e (λ s q. cc q))))
+    row_now (parts.notes r ask x q s f ph e) rest = moves_now rest (now_puts (opened state) _ (record r { phase = asking ask x (Some s) }) [] (kept_same state) refl refl refl refl tt tt (opening (tells_else e (λ s q. cc q))))
+    row_now (parts.applied u number ps e q) rest = moves_now rest (now_sends (opened state) _ ((1, 0, letters.Ack u) ∷ []) (row_kept (parts.applied u number ps e q)) refl refl refl refl (tt, tt) (opening (tells_else e (λ s q. cc q))))
+    row_now (parts.over u e) rest = moves_now rest (now_ends (opened state) _ u (kept_same state) refl refl refl refl (opening (tells_else e (λ s q. cc q))))
+    row_now (parts.dropped u again e q) rest = moves_now rest (now_ends (opened state) (parts.drops state u) u (drop_kept u again e) refl refl refl refl (opening (tells_else e (λ s q. cc q))))
+    row_now (parts.retried u e q g) rest = moves_now rest (begins_now (parts.drops state u) (programs.next_attempt w u) g (now_ends (opened state) (parts.drops state u) u (drop_kept u true e) refl refl refl refl (opening (tells_else e (λ s q. cc q)))))
+    row_now (parts.falls s e) rest = moves_now rest (fall_now s e)
+    row_now (parts.rises s z e) rest = rises_now s z e
+    row_now (parts.copies x target z c e q) rest = moves_now rest (now_sends (opened state) _ ((target.0 + 1, z, letters.CopyValue x c.value c.version) ∷ []) (kept_same state) refl refl refl refl (tt, tt) (opening (tells_else e (λ s q. cc q))))
+    row_now (parts.staged i u writes e) rest =
+        moves_now rest (now_sends (opened state) _ (((site (i + 1)).0 + 1, letter.from, letters.Vote u Yes) ∷ []) (row_kept (parts.staged i u writes e)) refl refl refl refl (inr (staged_now u writes state.staged), tt) (opening (by_peer i e.by)))
+    row_now (parts.counts i r reads writes awaited f ph e q) rest =
+        moves_now rest (now_puts (opened state) _ (record r { phase = preparing reads writes (parts.but (site (i + 1)) awaited) }) [] (kept_same state) refl refl refl refl tt
+        ((ready r f ph).0, but_one r.txn state.vector writes awaited (site (i + 1)) voted (ready r f ph).1) (opening (by_peer i e.by)))
+      where
+        its_vote : IsStagedAt p all r.txn i letter.from
+        its_vote = subst (VoteStaged p all i letter.from) e.is (vote i e.by)
+
+        voted : (j : ℕ) → is_site (site (i + 1)) (site (j + 1)) ≡ true → IsStagedAt p all r.txn j (session state.vector (site (j + 1)))
+        voted j same = subst (λ z. IsStagedAt p all r.txn z (session state.vector (site (z + 1)))) (let z = eqb-true (j + 1) (i + 1) same in let here : i ≡ j = omega (arith, z) in here)
+            (subst (IsStagedAt p all r.txn i) (sym (eqb-true (session state.vector (site (i + 1))) letter.from q)) its_vote)
+    row_now (parts.renewed i x v version c e q l) rest = moves_now rest (now_sends (opened state) _ ((1, 0, letters.CopyDone x version) ∷ []) (kept_same state) refl refl refl refl (tt, tt) (opening (by_peer i e.by)))
+    row_now (parts.given r ask x q v f ph g gg) rest = moves_now rest (goes_now (opened state) (record r { answers = put r.answers x v }) gg (opening (given_else g)))
+
+    pub step_now : Now (rows.hear_site w state from letter)
+    step_now = (let reached = site_moves w state from letter ascend in row_now reached.1.0 reached.1.1)
