@@ -133,6 +133,27 @@ module _ (w : Workload) where
         go false q true = (none_fit (s.0 + 1) (session (vector w r) s) (letters.Done t) tt, tt)
         go false q false = tt
 
+    -- an entry that is no Wait leaves those that there are
+    no_wait : (r : List Noted) (e : Entry) → IsLater w from letter r e → (t : Txn) (request : Request) → HasWait (add r e) t request → HasWait r t request
+    no_wait r e y t request h = go r (next r e) refl h
+      where
+        not_wait : (e : Entry) → IsLater w from letter r e → e ≡ Wait t request → ⊥
+        not_wait (Wait u q) y is = y
+        not_wait (Read u x s) y is = cc is
+        not_wait other y is = cc is
+
+        go : (ns : List Noted) (n : Noted) → n.entry ≡ e → HasWait (ns ++ n ∷ []) t request → HasWait ns t request
+        go [] n same (inl is) = absurd (not_wait e y (sym same ∙ is))
+        go [] n same (inr more) = more
+        go (z ∷ ns) n same (inl is) = inl is
+        go (z ∷ ns) n same (inr more) = inr (go ns n same more)
+
+    -- nor do other entries
+    pub chain_waits : (a b : Turn Sequencer) → Chain w from letter a b → (t : Txn) (r : Request) → HasWait (so_far b) t r → HasWait (so_far a) t r
+    chain_waits a b done t r h = h
+    chain_waits a b (places ask e y rest) t r h = no_wait (so_far a) e y t r (subst (λ z. HasWait z t r) (noted_push a.state.history e) (chain_waits (place w ask a e) b rest t r h))
+    chain_waits a b (sends {next = next} outs same is other rest) t r h = subst (λ z. HasWait (noted z) t r) same (chain_waits next b rest t r h)
+
     module _ (asked : (t : Txn) (r : Request) → IsAskedFor w from letter t r → IsGood t r) where
       entry_fit : (h : List Entry) (ask : ℕ) (e : Entry) → Grows p (noted h) → ((t : Txn) (r : Request) → HasWait (noted h) t r → IsGood t r) → IsLater w from letter (noted h) e → AreFit (rows.sends w (noted (h ++ e ∷ [])) ask e)
       entry_fit h ask (Read t x s) grows waits y = absurd y
@@ -174,21 +195,6 @@ module _ (w : Workload) where
           go (letters.CopyDo x target n) o = none_fit out.0 out.1 (letters.CopyDo x target n) tt
           go (letters.Ends count) o = none_fit out.0 out.1 (letters.Ends count) tt
           go other o = absurd o
-
-      -- an entry that is no Wait leaves those that there are
-      no_wait : (r : List Noted) (e : Entry) → IsLater w from letter r e → (t : Txn) (request : Request) → HasWait (add r e) t request → HasWait r t request
-      no_wait r e y t request h = go r (next r e) refl h
-        where
-          not_wait : (e : Entry) → IsLater w from letter r e → e ≡ Wait t request → ⊥
-          not_wait (Wait u q) y is = y
-          not_wait (Read u x s) y is = cc is
-          not_wait other y is = cc is
-
-          go : (ns : List Noted) (n : Noted) → n.entry ≡ e → HasWait (ns ++ n ∷ []) t request → HasWait ns t request
-          go [] n same (inl is) = absurd (not_wait e y (sym same ∙ is))
-          go [] n same (inr more) = more
-          go (z ∷ ns) n same (inl is) = inl is
-          go (z ∷ ns) n same (inr more) = inr (go ns n same more)
 
       pub chain_fit : (a b : Turn Sequencer) → Chain w from letter a b → Grows p (so_far a) → ((t : Txn) (r : Request) → HasWait (so_far a) t r → IsGood t r) → AreFit a.outs → AreFit b.outs
       chain_fit a b done grows waits fit = fit

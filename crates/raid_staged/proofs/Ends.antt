@@ -23,6 +23,14 @@ use Rattle.raid_layers.proofs.Histories.{any_push, committed_ended}
 pub aborted_ended : (p : List Noted) (t : Txn) → has_aborted p t ≡ true → has_ended p t ≡ true
 aborted_ended p t q = any_weaken (λ n. is_abort_of t n.entry) (λ n. is_end_of t n.entry) (λ n h. or_right (is_commit_of t n.entry) (is_abort_of t n.entry) h) p q
 
+-- what is applied at a site has committed
+applied_commits : (e : Entry) (t : Txn) (s : Site) → is_applied t s e ≡ true → is_commit_of t e ≡ true
+applied_commits (Commit u request applied) t s h = (and_parts (is_txn t u) (has_site applied s) h).0
+applied_commits other t s h = absurd (true≢false (sym h))
+
+pub applied_committed : (p : List Noted) (t : Txn) (s : Site) (n : ℕ) → was_applied p t s n ≡ true → has_committed p t ≡ true
+applied_committed p t s n h = any_weaken (λ z. (z.at == n) && is_applied t s z.entry) (λ z. is_commit_of t z.entry) (λ z q. applied_commits z.entry t s (and_parts (z.at == n) (is_applied t s z.entry) q).1) p h
+
 pub record EndsOnce (p : List Noted) : Type 0 where
   pub number : (t : Txn) (s : Site) (n : ℕ) → was_applied p t s n ≡ true → n ≡ commit_number p t
   pub apart : (t : Txn) → has_committed p t ≡ true → has_aborted p t ≡ true → ⊥
@@ -48,18 +56,11 @@ module _ (w : Workload) where
     not_both (Commit u request applied) t a b = true≢false (sym b)
     not_both other t a b = true≢false (sym a)
 
-    applied_commits : (e : Entry) (t : Txn) (s : Site) → is_applied t s e ≡ true → is_commit_of t e ≡ true
-    applied_commits (Commit u request applied) t s h = (and_parts (is_txn t u) (has_site applied s) h).0
-    applied_commits other t s h = absurd (true≢false (sym h))
-
-    old_commits : (t : Txn) (s : Site) (n : ℕ) → was_applied p t s n ≡ true → has_committed p t ≡ true
-    old_commits t s n h = any_weaken (λ z. (z.at == n) && is_applied t s z.entry) (λ z. is_commit_of t z.entry) (λ z q. applied_commits z.entry t s (and_parts (z.at == n) (is_applied t s z.entry) q).1) p h
-
     number_is : (t : Txn) (s : Site) (n : ℕ) → (was_applied p t s n ≡ true) ⊎ (((length p + 1 == n) && is_applied t s e) ≡ true) → n ≡ commit_number (add p e) t
     number_is t s n (inl old) = o.number t s n old ∙ sym (number_of_push (is_commit_of t) p (next p e) ∙ ap (λ b. if b then length p + 1 else commit_number p t) (not_now (is_commit_of t e) refl))
       where
         not_now : (b : Bool) → is_commit_of t e ≡ b → is_commit_of t e ≡ false
-        not_now true q = absurd (commits_open e goes t q (committed_ended p t (old_commits t s n old)))
+        not_now true q = absurd (commits_open e goes t q (committed_ended p t (applied_committed p t s n old)))
         not_now false q = q
     number_is t s n (inr now) =
         let both = and_parts (length p + 1 == n) (is_applied t s e) now in

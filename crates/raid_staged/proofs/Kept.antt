@@ -28,6 +28,7 @@ use Rattle.raid_asks.proofs.Facts.{or_left, or_right, any_weaken}
 use Rattle.raid_letters.specs.Says.{is_applied, was_applied, NoteSays}
 use Rattle.raid_layers.proofs.Histories.{committed_ended}
 use Rattle.raid_staged.specs.Staged.{is_staged}
+use Rattle.raid_staged.proofs.Ends.{aborted_ended, applied_committed}
 
 abbrev Pairs : Type 0
 Pairs = Txn × List (Item × ℤ)
@@ -122,19 +123,8 @@ module _ (w : Workload) (p : List Noted) (k from : ℕ) (letter : Letter) (note 
       go true q = absurd (true≢false (sym over ∙ subst (λ z. has_ended p z ≡ false) (sym (same_txn u t q)) alive))
       go false q = refl
 
-  applied_over : (u : Txn) (number : ℕ) → was_applied p u (site (k + 1)) number ≡ true → has_ended p u ≡ true
-  applied_over u number h = committed_ended p u (any_weaken (λ n. (n.at == number) && is_applied u (site (k + 1)) n.entry) (λ n. is_commit_of u n.entry) (λ n q. commit n.entry (n.at == number) q) p h)
-    where
-      commit : (e : Entry) (b : Bool) → (b && is_applied u (site (k + 1)) e) ≡ true → is_commit_of u e ≡ true
-      commit (Commit v request sites) true q = (and_parts (is_txn u v) _ q).0
-      commit other true q = absurd (true≢false (sym q))
-      commit e false q = absurd (true≢false (sym q))
-
-  dropped_over : (u : Txn) → has_aborted p u ≡ true → has_ended p u ≡ true
-  dropped_over u h = any_weaken (λ n. is_abort_of u n.entry) (λ n. is_end_of u n.entry) (λ n q. or_right (is_commit_of u n.entry) (is_abort_of u n.entry) q) p h
-
   pub alive_spared : IsSpared from letter t
   alive_spared = record {
-    applied = λ by u number is. over_not u (applied_over u number (subst (NoteSays w p (site (k + 1)) letter.to) is (note by)));
-    dropped = λ by u again is. over_not u (dropped_over u (subst (NoteSays w p (site (k + 1)) letter.to) is (note by)));
+    applied = λ by u number is. over_not u (committed_ended p u (applied_committed p u (site (k + 1)) number (subst (NoteSays w p (site (k + 1)) letter.to) is (note by))));
+    dropped = λ by u again is. over_not u (aborted_ended p u (subst (NoteSays w p (site (k + 1)) letter.to) is (note by)));
   }

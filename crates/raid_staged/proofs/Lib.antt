@@ -1,4 +1,6 @@
 pub mod Applied
 pub mod Ends
 pub mod Kept
+pub mod SiteWorlds
 pub mod Walk
+pub mod Worlds
