@@ -1,13 +1,11 @@
 -- What the sequencer sends to be applied is staged, where the request for it was made under sessions in which all was staged.
-use Rattle.std.proofs.Common.{◌≡◌, ◌⊎◌, inl, inr, ℕ, ℤ, zero, suc, ◌+◌, ◌-◌, ◌<◌, ◌≤◌, ◌==◌, nat_lt, nat_le, Bool, true, false, not, ◌&&◌, ◌||◌, List, [], ◌∷◌, ◌++◌, length, map, filter, Option, Some, None, if◌then◌else◌, arith, sym, subst, ap, ◌∙◌, refl}
+use Rattle.std.proofs.Common.{◌≡◌, inl, inr, ℕ, ◌+◌, ◌≤◌, ◌==◌, Bool, true, false, not, ◌&&◌, ◌||◌, List, [], ◌∷◌, ◌++◌, length, map, filter, Some, None, if◌then◌else◌, arith, sym, subst, ap, ◌∙◌, refl}
 use Rattle.std.specs.Prelude.{⊤, flat_map, slice_get}
 use Rattle.std.specs.List.{AllByRecursion, list_any}
-use Rattle.std.proofs.lemmas.Bool.{and_parts, and_from, eqb-true, true≢false}
+use Rattle.std.proofs.lemmas.Bool.{and_parts, eqb-true, true≢false}
 use Rattle.raid_base.specs.declared.names.Txn.{Txn}
-use Rattle.raid_base.specs.declared.names.Item.{Item}
 use Rattle.raid_base.specs.declared.names.Site.{Site}
 use Rattle.raid_base.specs.declared.request.Request.{Request}
-use Rattle.raid_base.specs.declared.entry.Cause.{Cause}
 use Rattle.raid_base.specs.declared.entry.Cause.TheVariants as causes
 use Rattle.raid_base.specs.declared.entry.Act.TheVariants as acts
 use Rattle.raid_base.specs.declared.entry.Entry.{Entry}
@@ -20,14 +18,14 @@ use Rattle.raid_base.specs.Sites.{session, site}
 use Rattle.raid_workload.specs.declared.workload.Workload.{Workload}
 use Rattle.raid_workload.specs.Parts.{sites, home}
 use Rattle.raid_rules.specs.Entries.{is_end_of}
-use Rattle.raid_rules.specs.History.{noted, add, next, stamp, has_begun, has_ended, is_running, is_waiting}
+use Rattle.raid_rules.specs.History.{noted, add, next, stamp, has_begun, has_ended, is_waiting}
 use Rattle.raid_rules.specs.Sessions.{last_session}
 use Rattle.raid_rules.specs.Verdicts.{writing}
 use Rattle.raid_rules.proofs.Push.{noted_push}
 use Rattle.raid_rules.proofs.Sources.{has_kept}
 use Rattle.raid_legal.specs.Seen.{vector, is_up, up_holders, holds_some}
 use Rattle.raid_legal.specs.InForce.{verdict}
-use Rattle.raid_legal.specs.Answers.{answer_commit, answered, decided, closes_waits, site_refusal, has_no_holder, is_stale}
+use Rattle.raid_legal.specs.Answers.{answer_commit, answered, decided, closes_waits, has_no_holder, is_stale}
 use Rattle.raid_message.specs.declared.letter.Message.{Message}
 use Rattle.raid_message.specs.declared.letter.Message.TheVariants as letters
 use Rattle.raid_message.specs.declared.letter.Letter.{Letter}
@@ -42,7 +40,7 @@ use Rattle.raid_letters.specs.Says.{AreReached}
 use Rattle.raid_letters.proofs.Sends.{same_site}
 use Rattle.raid_layers.proofs.Histories.{Grows, HasWait, any_kept}
 use Rattle.raid_layers.proofs.Opening.{IsAskedFor, IsLater, Chain, done, places, sends}
-use Rattle.raid_staged.specs.Staged.{is_staged, IsStagedAt, AreStaged, ApplyStaged}
+use Rattle.raid_staged.specs.Staged.{AreStaged, ApplyStaged}
 
 some_same : {X : Type 0} {x y : X} → Some x ≡ Some y → x ≡ y
 some_same q = cc q
@@ -160,7 +158,7 @@ module _ (w : Workload) where
       entry_fit h ask (Commit t r applied) grows waits y = commits_fit (noted (h ++ Commit t r applied ∷ [])) t applied each (sites w)
         where
           good : IsGood t r
-          good = elim y.1.1 [ | inl wait ↦ waits t r wait | inr now ↦ asked t r now ]
+          good = elim y.1.1 [ inl wait ↦ waits t r wait | inr now ↦ asked t r now ]
 
           alive : has_ended p t ≡ true → ⊥
           alive over = clash (has_ended (noted h) t) (and_parts (has_begun (noted h) t) (not (has_ended (noted h) t)) y.0).1 (grows (λ n. is_end_of t n.entry) over)

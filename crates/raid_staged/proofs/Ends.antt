@@ -1,6 +1,5 @@
 -- A transaction commits once, and none is aborted that has committed.
-use Rattle.std.proofs.Common.{◌≡◌, ◌⊎◌, inl, inr, ℕ, ◌+◌, ◌==◌, Bool, true, false, not, ◌&&◌, ◌||◌, List, [], ◌∷◌, ◌++◌, length, if◌then◌else◌, arith, sym, subst, ap, ◌∙◌, refl}
-use Rattle.std.specs.List.{list_any}
+use Rattle.std.proofs.Common.{◌≡◌, ◌⊎◌, inl, inr, ℕ, ◌+◌, ◌==◌, Bool, true, false, not, ◌&&◌, List, [], ◌∷◌, ◌++◌, length, if◌then◌else◌, sym, subst, ap, ◌∙◌, refl}
 use Rattle.std.proofs.lemmas.Bool.{and_parts, eqb-true, true≢false}
 use Rattle.raid_base.specs.declared.names.Txn.{Txn}
 use Rattle.raid_base.specs.declared.names.Site.{Site}
@@ -10,13 +9,13 @@ use Rattle.raid_base.specs.declared.entry.Noted.{Noted}
 use Rattle.raid_base.specs.Names.{is_txn, has_site}
 use Rattle.raid_workload.specs.declared.workload.Workload.{Workload}
 use Rattle.raid_rules.specs.Entries.{is_commit_of, is_abort_of, is_end_of}
-use Rattle.raid_rules.specs.History.{noted, add, next, number_of, has_begun, has_committed, has_aborted, has_ended, is_running, commit_number}
+use Rattle.raid_rules.specs.History.{noted, add, next, has_begun, has_committed, has_aborted, has_ended, commit_number}
 use Rattle.raid_rules.proofs.Places.{by_last}
 use Rattle.raid_rules.proofs.Push.{noted_push, number_of_push, same_txn}
 use Rattle.raid_placed.specs.Placed.{Placed, Placeable}
 use Rattle.raid_placed.proofs.Orderly.{placeable_follows}
 use Rattle.raid_placed.proofs.Sent.{placed_push}
-use Rattle.raid_asks.proofs.Facts.{or_left, or_right, or_parts, any_weaken}
+use Rattle.raid_asks.proofs.Facts.{or_right, or_parts, any_weaken}
 use Rattle.raid_letters.specs.Says.{is_applied, was_applied}
 use Rattle.raid_layers.proofs.Histories.{any_push, committed_ended}
 

@@ -1,19 +1,16 @@
 -- What is staged at a site for a transaction that isn't over stays staged through the site's steps, until it stops.
-use Rattle.std.proofs.Common.{◌≡◌, ◌⊎◌, inl, inr, ℕ, ℤ, zero, suc, ◌+◌, ◌==◌, Bool, true, false, not, ◌&&◌, ◌||◌, List, [], ◌∷◌, ◌++◌, filter, Option, Some, None, if◌then◌else◌, arith, sym, subst, ap, ◌∙◌, refl}
-use Rattle.std.specs.List.{AllByRecursion, list_any}
-use Rattle.std.proofs.lemmas.Bool.{and_parts, eqb-true, true≢false}
+use Rattle.std.proofs.Common.{◌≡◌, ℕ, ℤ, ◌+◌, ◌==◌, Bool, true, false, not, ◌||◌, List, [], ◌∷◌, if◌then◌else◌, arith, sym, subst, ◌∙◌, refl}
+use Rattle.std.specs.List.{list_any}
+use Rattle.std.proofs.lemmas.Bool.{true≢false}
 use Rattle.std.proofs.lemmas.List.Folds.{list_any-append}
 use Rattle.raid_base.specs.declared.names.Txn.{Txn}
 use Rattle.raid_base.specs.declared.names.Item.{Item}
-use Rattle.raid_base.specs.declared.entry.Entry.{Entry}
-use Rattle.raid_base.specs.declared.entry.Entry.TheVariants.{Commit}
 use Rattle.raid_base.specs.declared.entry.Noted.{Noted}
 use Rattle.raid_base.specs.Names.{is_txn}
 use Rattle.raid_base.specs.Sites.{site}
 use Rattle.raid_program.specs.Run.{put}
 use Rattle.raid_workload.specs.declared.workload.Workload.{Workload}
-use Rattle.raid_rules.specs.Entries.{is_abort_of, is_commit_of, is_end_of}
-use Rattle.raid_rules.specs.History.{has_aborted, has_committed, has_ended}
+use Rattle.raid_rules.specs.History.{has_ended}
 use Rattle.raid_rules.proofs.Push.{same_txn}
 use Rattle.raid_legal.specs.Seen.{holds_some}
 use Rattle.raid_message.specs.declared.letter.Message.TheVariants as letters
@@ -21,11 +18,10 @@ use Rattle.raid_message.specs.declared.letter.Letter.{Letter}
 use Rattle.raid_steps.specs.State.{Turn, opened, tell, Running, SiteState}
 use Rattle.raid_steps.specs.Copies.{unstage, stage}
 use Rattle.raid_steps.specs.Programs as programs
-use Rattle.raid_steps.specs.Site.{hear_site}
 use Rattle.raid_moves.specs.Moves as parts
 use Rattle.raid_moves.specs.Moves.{Ascend, Tells, comes_to, Goes, fresh, Row, next_of, passed, Move, Moves}
-use Rattle.raid_asks.proofs.Facts.{or_left, or_right, any_weaken}
-use Rattle.raid_letters.specs.Says.{is_applied, was_applied, NoteSays}
+use Rattle.raid_asks.proofs.Facts.{or_left, or_right}
+use Rattle.raid_letters.specs.Says.{NoteSays}
 use Rattle.raid_layers.proofs.Histories.{committed_ended}
 use Rattle.raid_staged.specs.Staged.{is_staged}
 use Rattle.raid_staged.proofs.Ends.{aborted_ended, applied_committed}

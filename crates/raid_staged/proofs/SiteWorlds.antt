@@ -1,11 +1,10 @@
 -- Each step of a site keeps what is staged before it is to be applied.
-use Rattle.std.proofs.Common.{◌≡◌, ◌≢◌, ◌⊎◌, inl, inr, ℕ, ℤ, zero, suc, ◌+◌, ◌-◌, ◌<◌, ◌≤◌, ◌==◌, nat_le, Bool, true, false, ◌&&◌, ◌||◌, List, [], ◌∷◌, ◌++◌, map, Option, Some, None, if◌then◌else◌, arith, sym, subst, ap, ◌∙◌, refl}
+use Rattle.std.proofs.Common.{◌≡◌, ◌≢◌, ◌⊎◌, inl, inr, ℕ, ℤ, zero, suc, ◌+◌, ◌-◌, ◌<◌, ◌≤◌, ◌==◌, Bool, true, false, ◌||◌, List, ◌∷◌, map, Some, if◌then◌else◌, arith, sym, subst, ap, ◌∙◌, refl}
 use Rattle.std.specs.Prelude.{⊤, slice_get, slice_set}
 use Rattle.std.specs.List.{AllByRecursion}
-use Rattle.std.proofs.lemmas.Bool.{and_from, true≢false}
+use Rattle.std.proofs.lemmas.Bool.{true≢false}
 use Rattle.raid_base.specs.declared.names.Txn.{Txn}
 use Rattle.raid_base.specs.declared.names.Item.{Item}
-use Rattle.raid_base.specs.declared.names.Site.{Site}
 use Rattle.raid_base.specs.declared.entry.Answer.TheVariants.{Yes}
 use Rattle.raid_base.specs.declared.entry.Noted.{Noted}
 use Rattle.raid_base.specs.Names.{is_txn, has_site}
@@ -13,7 +12,7 @@ use Rattle.raid_base.specs.Sites.{session, site, all_sites}
 use Rattle.raid_workload.specs.declared.workload.Workload.{Workload}
 use Rattle.raid_workload.specs.Parts as workload
 use Rattle.raid_workload.specs.Parts.{count_from}
-use Rattle.raid_rules.specs.History.{noted, has_aborted, has_committed, has_ended}
+use Rattle.raid_rules.specs.History.{noted, has_aborted, has_ended}
 use Rattle.raid_rules.specs.Sessions.{last_session}
 use Rattle.raid_rules.proofs.Push.{same_txn}
 use Rattle.raid_legal.specs.Seen.{holds_some}
@@ -31,8 +30,7 @@ use Rattle.raid_sessions.proofs.Mail.{same_or_not, moved, set_here}
 use Rattle.raid_sessions.proofs.Reached.{server_below, from_below}
 use Rattle.raid_moves.proofs.Places.{all_both}
 use Rattle.raid_moves.proofs.Steps.{site_moves}
-use Rattle.raid_asks.proofs.Facts.{any_weaken}
-use Rattle.raid_letters.specs.Says.{is_applied, was_applied, NoteSays, IsBefore, AreInTurn}
+use Rattle.raid_letters.specs.Says.{was_applied, NoteSays, IsBefore, AreInTurn}
 use Rattle.raid_letters.proofs.Runs.{LetterSays, QueueSays, set_all}
 use Rattle.raid_layers.proofs.SiteWorlds.{HomeStep, home_step}
 use Rattle.raid_layers.proofs.SiteWorlds as steps
@@ -217,7 +215,7 @@ module _ (w : Workload) (eight : w.sites ≤ 8) (state : World) (landed : Landed
       each (here, one) =
           let square = landed.says.reached.square in
           let gone = ap (λ z. link left z 1) here ∙ ap (link left (suc (suc j))) (sym one)
-              ∙ set_here (w.sites + 2) state.links (suc (suc j)) from rest square (server_below (w.sites + 2) state.links (suc (suc j)) from letter rest square front) (from_below (w.sites + 2) state.links (suc (suc j)) from letter rest square front) in
+          ∙ set_here (w.sites + 2) state.links (suc (suc j)) from rest square (server_below (w.sites + 2) state.links (suc (suc j)) from letter rest square front) (from_below (w.sites + 2) state.links (suc (suc j)) from letter rest square front) in
           subst (AllByRecursion (λ (l : Letter). IsBefore letter.message l.message)) (sym gone) (subst AreInTurn front (landed.says.turns (suc (suc j)) from one)).0
 
   fits_still : (c : ℕ) (l : Letter) → IsBehind c l → NoteSays w p (site (c - 1)) l.to l.message → FitsAt w p sites c l.to l.message → FitsAt w p changed c l.to l.message

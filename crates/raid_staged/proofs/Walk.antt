@@ -1,14 +1,12 @@
 -- A step of a home keeps what is staged for its transactions in preparation, so that a commit is asked for once all is.
-use Rattle.std.proofs.Common.{◌≡◌, ◌≢◌, ◌⊎◌, inl, inr, ℕ, ℤ, zero, suc, ◌+◌, ◌-◌, ◌<◌, ◌≤◌, ◌==◌, nat_lt, nat_le, Bool, true, false, not, ◌&&◌, ◌||◌, List, [], ◌∷◌, ◌++◌, map, find, filter, length, Option, Some, None, if◌then◌else◌, arith, sym, subst, ap, ◌∙◌, refl, append-nil}
+use Rattle.std.proofs.Common.{◌≡◌, ◌≢◌, ◌⊎◌, inl, inr, ℕ, ℤ, suc, ◌+◌, ◌-◌, ◌≤◌, ◌==◌, nat_lt, nat_le, Bool, true, false, not, ◌&&◌, ◌||◌, List, [], ◌∷◌, ◌++◌, map, filter, length, Option, Some, None, if◌then◌else◌, arith, sym, subst, ap, ◌∙◌, refl, append-nil}
 use Rattle.std.specs.Prelude.{⊤, slice_get, slice_set, slice_index, fold}
-use Rattle.std.specs.List.{AllByRecursion, list_any}
-use Rattle.std.proofs.lemmas.Bool.{and_parts, and_from, eqb-true, true≢false}
+use Rattle.std.specs.List.{AllByRecursion}
+use Rattle.std.proofs.lemmas.Bool.{and_parts, eqb-true, true≢false}
 use Rattle.raid_base.specs.declared.names.Txn.{Txn}
 use Rattle.raid_base.specs.declared.names.Item.{Item}
 use Rattle.raid_base.specs.declared.names.Site.{Site}
-use Rattle.raid_base.specs.declared.entry.Answer.{Answer}
 use Rattle.raid_base.specs.declared.entry.Answer.TheVariants.{Yes, No}
-use Rattle.raid_base.specs.declared.entry.Cause.{Cause}
 use Rattle.raid_base.specs.declared.entry.Noted.{Noted}
 use Rattle.raid_base.specs.Names.{is_txn, is_site, has_site}
 use Rattle.raid_base.specs.Sites.{session, site, all_sites}
@@ -39,9 +37,8 @@ use Rattle.raid_moves.proofs.Steps.{site_moves, sequencer_rows, asks_commits, as
 use Rattle.raid_moves.proofs.Swept.{joined_all, told_is}
 use Rattle.raid_letters.specs.Says.{NoteSays}
 use Rattle.raid_layers.proofs.Turns.{filtered_out, filtered_other}
-use Rattle.raid_staged.specs.Staged.{is_staged, IsStagedAt, AreStaged, VoteStaged, IsPrepared}
-use Rattle.raid_staged.proofs.Kept.{staged_in, still_staged, staged_now, unstaged_other, IsSpared, row_keeps, move_keeps, alive_spared}
-use Rattle.raid_staged.proofs.Ends.{aborted_ended}
+use Rattle.raid_staged.specs.Staged.{is_staged, IsStagedAt, VoteStaged, IsPrepared}
+use Rattle.raid_staged.proofs.Kept.{staged_in, still_staged, staged_now, unstaged_other, IsSpared, row_keeps, alive_spared}
 
 none_runs : (rs : List Running) (t : Txn) (r : Running) → (length rs == 0) ≡ true → program_of t rs ≡ Some r → ⊥
 none_runs [] t r none f = nothing f
@@ -187,7 +184,7 @@ module _ (w : Workload) (p : List Noted) (all : List SiteState) (k : ℕ) (state
           empty : (s : SiteState) → slice_get all j ≡ Some s → s.up ≡ true → s.session ≡ session (programs.prepare w turn r (comes_to w r)).state.vector (site (j + 1)) → last_session p (site (j + 1)) ≡ session (programs.prepare w turn r (comes_to w r)).state.vector (site (j + 1)) → ⊥
           empty s at up same last =
               let tested = half ((is_site_up turn.state.vector (site (j + 1)) && not (is_site turn.state.site (site (j + 1)))) && holds_some w (comes_to w r).writes (site (j + 1))) (has_site (sites w) (site (j + 1)))
-                  (sym (has_kept (λ s. is_site_up turn.state.vector s && not (is_site turn.state.site s) && holds_some w (comes_to w r).writes s) (site (j + 1)) (sites w)) ∙ none) (of_workload j s at) in
+              (sym (has_kept (λ s. is_site_up turn.state.vector s && not (is_site turn.state.site s) && holds_some w (comes_to w r).writes s) (site (j + 1)) (sites w)) ∙ none) (of_workload j s at) in
               let first = half (is_site_up turn.state.vector (site (j + 1)) && not (is_site turn.state.site (site (j + 1)))) (holds_some w (comes_to w r).writes (site (j + 1))) tested holds in
               let apart : is_site turn.state.site (site (j + 1)) ≡ false = other_place j differ (is_site turn.state.site (site (j + 1))) (ap (λ z. is_site z (site (j + 1))) (sym n.place)) in
               let down = half (is_site_up turn.state.vector (site (j + 1))) (not (is_site turn.state.site (site (j + 1)))) first (ap not apart) in

@@ -1,5 +1,5 @@
 -- Each step of the monitor and of the sequencer keeps what is staged before it is to be applied.
-use Rattle.std.proofs.Common.{◌≡◌, ◌⊎◌, inl, inr, ℕ, ℤ, zero, suc, ◌+◌, ◌-◌, ◌<◌, ◌≤◌, ◌==◌, Bool, true, false, List, [], ◌∷◌, ◌++◌, Option, Some, None, if◌then◌else◌, arith, sym, subst, ap, ◌∙◌, refl}
+use Rattle.std.proofs.Common.{◌≡◌, ◌⊎◌, inl, inr, ℕ, ℤ, zero, suc, ◌+◌, ◌-◌, ◌≤◌, ◌==◌, Bool, true, false, List, [], ◌∷◌, ◌++◌, Some, if◌then◌else◌, arith, sym, subst, ap, ◌∙◌, refl}
 use Rattle.std.specs.Prelude.{⊤, slice_get}
 use Rattle.std.specs.List.{AllByRecursion, list_any}
 use Rattle.std.proofs.lemmas.Bool.{eqb-true}
@@ -8,7 +8,6 @@ use Rattle.raid_base.specs.declared.names.Item.{Item}
 use Rattle.raid_base.specs.declared.names.Site.{Site}
 use Rattle.raid_base.specs.declared.request.Request.{Request}
 use Rattle.raid_base.specs.declared.entry.Answer.TheVariants.{Yes}
-use Rattle.raid_base.specs.declared.entry.Entry.{Entry}
 use Rattle.raid_base.specs.declared.entry.Entry.TheVariants.{Read, Wait}
 use Rattle.raid_base.specs.declared.entry.Noted.{Noted}
 use Rattle.raid_base.specs.Names.{is_site}
@@ -16,7 +15,7 @@ use Rattle.raid_base.specs.Sites.{session, site}
 use Rattle.raid_workload.specs.declared.workload.Workload.{Workload}
 use Rattle.raid_workload.specs.Parts.{home}
 use Rattle.raid_rules.specs.Entries.{is_end_of}
-use Rattle.raid_rules.specs.History.{noted, add, next, has_ended}
+use Rattle.raid_rules.specs.History.{noted, next}
 use Rattle.raid_rules.specs.Sessions.{last_session}
 use Rattle.raid_rules.proofs.Push.{noted_push}
 use Rattle.raid_legal.specs.Seen.{vector}
@@ -36,7 +35,7 @@ use Rattle.raid_moves.proofs.Places.{all_both, program_of, nothing}
 use Rattle.raid_asks.proofs.Cares.{Stage, stopped, asleep, awake}
 use Rattle.raid_asks.proofs.Cares as cares
 use Rattle.raid_asks.proofs.Waits.{Waits}
-use Rattle.raid_letters.specs.Says.{AreReached, NoteSays, AskSays, PeerSays}
+use Rattle.raid_letters.specs.Says.{AreReached, AskSays, PeerSays}
 use Rattle.raid_letters.proofs.Later.{Later}
 use Rattle.raid_letters.proofs.Runs.{LetterSays, QueueSays, WorldSays, steps_on}
 use Rattle.raid_letters.proofs.Waits.{WaitSays, all_noted}

@@ -3,7 +3,6 @@ use Rattle.std.specs.Prelude.{◌≡◌, ◌⊎◌, ℕ, ℤ, ◌+◌, ◌==◌,
 use Rattle.std.specs.List.{AllByRecursion, list_any}
 use Rattle.raid_base.specs.declared.names.Txn.{Txn}
 use Rattle.raid_base.specs.declared.names.Item.{Item}
-use Rattle.raid_base.specs.declared.entry.Answer.{Answer}
 use Rattle.raid_base.specs.declared.entry.Answer.TheVariants.{Yes}
 use Rattle.raid_base.specs.declared.entry.Entry.{Entry}
 use Rattle.raid_base.specs.declared.entry.Entry.TheVariants.{Wait}
@@ -17,8 +16,7 @@ use Rattle.raid_legal.specs.Seen.{holds_some}
 use Rattle.raid_message.specs.declared.letter.Message.{Message}
 use Rattle.raid_message.specs.declared.letter.Message.TheVariants as letters
 use Rattle.raid_message.specs.declared.letter.Letter.{Letter}
-use Rattle.raid_steps.specs.State.{Phase, preparing, SiteState}
-use Rattle.raid_steps.specs.Programs.{running_of}
+use Rattle.raid_steps.specs.State.{Phase, preparing, Running, SiteState}
 use Rattle.raid_steps.specs.World.{World, link}
 use Rattle.raid_sessions.specs.Present.{last_told}
 
@@ -66,5 +64,5 @@ pub record StagedFirst (w : Workload) (state : World) : Type 0 where
   pub asks : (k : ℕ) → AllByRecursion (λ (l : Letter). AskStaged w (noted state.servers.sequencer.history) state.servers.sites l.message) (link state.links 1 (k + 2))
   pub waits : AllByRecursion (λ (n : Noted). WaitStaged w (noted state.servers.sequencer.history) state.servers.sites n.entry) (noted state.servers.sequencer.history)
   -- at sites that are up in their last session told
-  pub prepared : (k : ℕ) (s : SiteState) → slice_get state.servers.sites k ≡ Some s → s.up ≡ true → last_told state k ≡ s.session → (t : Txn) → AllByRecursion (λ r. IsPrepared w (noted state.servers.sequencer.history) state.servers.sites k s r.txn r.phase) s.running
+  pub prepared : (k : ℕ) (s : SiteState) → slice_get state.servers.sites k ≡ Some s → s.up ≡ true → last_told state k ≡ s.session → AllByRecursion (λ (r : Running). IsPrepared w (noted state.servers.sequencer.history) state.servers.sites k s r.txn r.phase) s.running
   pub applies : (j : ℕ) (s : SiteState) → slice_get state.servers.sites j ≡ Some s → s.up ≡ true → last_told state j ≡ s.session → AllByRecursion (λ (l : Letter). (l.to == s.session) ≡ true → ApplyStaged s l.message) (link state.links (j + 2) 1)
