@@ -26,7 +26,9 @@ is_staged t s = list_any (λ (e : Txn × List (Item × ℤ)). is_txn t e.0) s.st
 
 -- it is at the site at a place, counted from 0, if the site is up in this session and the history has it in it; or the transaction is over
 abbrev pub IsStagedAt : List Noted → List SiteState → Txn → ℕ → ℕ → Type 0
-IsStagedAt p sites t j n = (has_ended p t ≡ true) ⊎ ((s : SiteState) → slice_get sites j ≡ Some s → s.up ≡ true → s.session ≡ n → last_session p (site (j + 1)) ≡ n → is_staged t s ≡ true)
+IsStagedAt p sites t j n =
+    (has_ended p t ≡ true)
+    ⊎ ((s : SiteState) → slice_get sites j ≡ Some s → s.up ≡ true → s.session ≡ n → last_session p (site (j + 1)) ≡ n → is_staged t s ≡ true)
 
 -- so at each site that holds a written item, in its session in a vector
 abbrev pub AreStaged : Workload → List Noted → List SiteState → Txn → List (Item × ℤ) → List ℕ → Type 0
@@ -46,7 +48,7 @@ abbrev pub WaitStaged : Workload → List Noted → List SiteState → Entry →
 WaitStaged w p sites (Wait t request) = AreStaged w p sites t request.writes request.under
 WaitStaged w p sites other = ⊤
 
--- what is to be applied is staged
+-- what is to be applied at the site is staged there
 abbrev pub ApplyStaged : SiteState → Message → Type 0
 ApplyStaged s (letters.Apply t number) = is_staged t s ≡ true
 ApplyStaged s other = ⊤
@@ -58,11 +60,21 @@ IsPrepared w p sites k s t (preparing reads writes awaited) =
     × ((j : ℕ) → (j ≡ k → ⊥) → holds_some w writes (site (j + 1)) ≡ true → has_site awaited (site (j + 1)) ≡ false → IsStagedAt p sites t j (session s.vector (site (j + 1))))
 IsPrepared w p sites k s t other = ⊤
 
--- all of it
+-- the entries that the sequencer has placed
+abbrev pub history : World → List Noted
+history state = noted state.servers.sequencer.history
+
+-- what is to be applied is staged
 pub record StagedFirst (w : Workload) (state : World) : Type 0 where
-  pub votes : (k j : ℕ) → AllByRecursion (λ (l : Letter). VoteStaged (noted state.servers.sequencer.history) state.servers.sites j l.from l.message) (link state.links (k + 2) (j + 2))
-  pub asks : (k : ℕ) → AllByRecursion (λ (l : Letter). AskStaged w (noted state.servers.sequencer.history) state.servers.sites l.message) (link state.links 1 (k + 2))
-  pub waits : AllByRecursion (λ (n : Noted). WaitStaged w (noted state.servers.sequencer.history) state.servers.sites n.entry) (noted state.servers.sequencer.history)
-  -- at sites that are up in their last session told
-  pub prepared : (k : ℕ) (s : SiteState) → slice_get state.servers.sites k ≡ Some s → s.up ≡ true → last_told state k ≡ s.session → AllByRecursion (λ (r : Running). IsPrepared w (noted state.servers.sequencer.history) state.servers.sites k s r.txn r.phase) s.running
-  pub applies : (j : ℕ) (s : SiteState) → slice_get state.servers.sites j ≡ Some s → s.up ≡ true → last_told state j ≡ s.session → AllByRecursion (λ (l : Letter). (l.to == s.session) ≡ true → ApplyStaged s l.message) (link state.links (j + 2) 1)
+  -- a site has staged what it votes yes for: votes on their way to the site at the first place, from the one at the second
+  pub votes : (k j : ℕ) → AllByRecursion (λ (l : Letter). VoteStaged (history state) state.servers.sites j l.from l.message) (link state.links (k + 2) (j + 2))
+  -- all sites have staged what a commit is asked for, on its way from each site
+  pub asks : (k : ℕ) → AllByRecursion (λ (l : Letter). AskStaged w (history state) state.servers.sites l.message) (link state.links 1 (k + 2))
+  -- and what was made to wait
+  pub waits : AllByRecursion (λ (n : Noted). WaitStaged w (history state) state.servers.sites n.entry) (history state)
+  -- so it is for what is in preparation at a site that is up in its last session told
+  pub prepared : (k : ℕ) (s : SiteState) → slice_get state.servers.sites k ≡ Some s → s.up ≡ true → last_told state k ≡ s.session →
+      AllByRecursion (λ (r : Running). IsPrepared w (history state) state.servers.sites k s r.txn r.phase) s.running
+  -- such a site has staged what it is told to apply, in that session
+  pub applies : (j : ℕ) (s : SiteState) → slice_get state.servers.sites j ≡ Some s → s.up ≡ true → last_told state j ≡ s.session →
+      AllByRecursion (λ (l : Letter). (l.to == s.session) ≡ true → ApplyStaged s l.message) (link state.links (j + 2) 1)
