@@ -209,7 +209,7 @@ module _ (w : Workload) where
           step_says told (noted turn.state.history) s.links 1 from 0 clock l rest turn.outs (steps_later w from l told opens (opened s.servers.sequencer) turn steps) front r.says
           (both_say (noted turn.state.history) 0 clock turn.outs (steps_say w from l told opens asked (opened s.servers.sequencer) turn steps tt) (copies_right_heard w s.servers.sequencer from l))
 
-      steps_on : Later told (noted (hear_sequencer w s.servers.sequencer from l).state.history)
+      pub steps_on : Later told (noted (hear_sequencer w s.servers.sequencer from l).state.history)
       steps_on =
           let steps = hear_steps w from l told s.servers.sequencer from refl refl r.reached.placed r.reached.quiet in
           steps_later w from l told opens (opened s.servers.sequencer) (hear_sequencer w s.servers.sequencer from l) steps

@@ -51,7 +51,7 @@ module _ (w : Workload) where
   later_wait p q later other h = tt
 
   -- so does each that waits
-  all_noted : (P : Entry → Type 0) (before : List Noted) (h : List Entry) → AllByRecursion (λ (n : Noted). P n.entry) before → AllByRecursion P h → AllByRecursion (λ (n : Noted). P n.entry) (fold add before h)
+  pub all_noted : (P : Entry → Type 0) (before : List Noted) (h : List Entry) → AllByRecursion (λ (n : Noted). P n.entry) before → AllByRecursion P h → AllByRecursion (λ (n : Noted). P n.entry) (fold add before h)
   all_noted P before [] a b = a
   all_noted P before (e ∷ h) a b = all_noted P (add before e) h (all_append (λ (n : Noted). P n.entry) before (next before e ∷ []) a (b.0, tt)) b.1
 

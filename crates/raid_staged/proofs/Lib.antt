@@ -1,0 +1,7 @@
+pub mod Applied
+pub mod Ends
+pub mod Kept
+pub mod Runs
+pub mod SiteWorlds
+pub mod Walk
+pub mod Worlds
