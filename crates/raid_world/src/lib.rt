@@ -4,10 +4,10 @@
 
 pub mod bound;
 mod copying;
-mod opening;
+pub mod opening;
 mod posting;
 pub mod servers;
-mod telling;
+pub mod telling;
 pub mod times;
 pub mod world;
 

@@ -38,7 +38,7 @@ fn all_first(sites: u8) -> Vector
 }
 
 /// The letter that waits at a site.
-fn welcome(workload: &Workload, site: Site) -> Letter
+pub fn welcome(workload: &Workload, site: Site) -> Letter
     ensures { result ≡ first_letter workload.now site }
 {
     Letter {
