@@ -133,3 +133,8 @@ module _ {V : Type 0} {D : V → Type 0} where
 
   pub go_kept : (say : Says V D) (w : Workload) (all new : List (ServerNode V D)) → all ≡ new → AllGo say w new → AllGo say w all
   go_kept say w all new e go = subst (λ xs. AllGo say w xs) (sym e) go
+
+  pub some_ran : (w : Workload) (most : ℕ) (all new now : List (ServerNode V D)) (r : Rounds) → all ≡ new → now ≡ all → BelowLimit now → (r ≡ Idle → BelowLimit new → Ran w true new) →
+      (r ≡ Spent → BelowLimit new → Ran w false new × (most ≤ all_steps new)) → (b : Bool) × Ran w b all
+  some_ran w most all new now Idle e f below idle spent = (true, idle_kept w all new now Idle e f below idle refl)
+  some_ran w most all new now Spent e f below idle spent = (false, (spent_kept w most all new now Spent e f below spent refl).0)

@@ -9,5 +9,6 @@ pub mod Together
 pub mod Ending
 pub mod Runs
 pub mod Counted
+pub mod Reports
 pub mod Links
 pub mod First

@@ -1,9 +1,11 @@
 -- A run of the nodes of a workload: from what it begins, and to what end it comes.
-use Rattle.std.specs.Prelude.{◌≡◌, ℕ, ◌+◌, ◌<◌, ◌≤◌, Bool, List, [], ◌∷◌, length, map, slice_index_or}
+use Rattle.std.specs.Prelude.{◌≡◌, ℕ, zero, suc, ◌+◌, ◌<◌, ◌≤◌, Bool, List, [], ◌∷◌, length, map, slice_get, slice_index_or}
+use Rattle.std.specs.Option.{option_map_or}
+use Rattle.raid_base.specs.declared.report.CopyLine.{CopyLine}
 use Rattle.raid_workload.specs.declared.workload.Workload.{Workload}
 use Rattle.raid_boxed.specs.Boxed.{Says}
 use Rattle.raid_steps.specs.World as steps
-use Rattle.raid_steps.specs.World.{World, open_world, first_servers, is_idle}
+use Rattle.raid_steps.specs.World.{World, open_world, first_servers, is_idle, copy_lines}
 use Rattle.raid_causes.specs.Histories.{History, Histories, alone}
 use Rattle.raid_link.specs.Link.{given}
 use Rattle.raid_link.specs.declared.ends.Receiver.{Receiver}
@@ -54,3 +56,9 @@ all_steps (x ∷ xs) = length x.journal + all_steps xs
 -- all nodes go on
 abbrev pub AllGo : {V : Type 0} {D : V → Type 0} → Says V D → Workload → List (ServerNode V D) → Type 0
 AllGo {V} {D} say w xs = (k : ℕ) (d : ServerNode V D) → k < length xs → Goes say w (slice_index_or xs k d)
+
+-- what is told of the copies of a server: none where it is no site's
+abbrev pub lines_at : ℕ → steps.Servers → List CopyLine
+lines_at zero s = []
+lines_at (suc zero) s = []
+lines_at (suc (suc k)) s = option_map_or copy_lines (slice_get s.sites k) []

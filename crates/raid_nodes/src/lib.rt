@@ -3,7 +3,6 @@
 //! What a node does is what `raid_causes` says of a server by itself, so whatever is shown there of such servers holds of these.
 #![tactic(auto)]
 
-pub mod copying;
 pub mod linking;
 pub mod making;
 pub mod node;

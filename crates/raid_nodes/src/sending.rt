@@ -3,10 +3,10 @@ ghost use Rattle.std.specs.Prelude.{◌≡◌, ◌<◌, map, length, All, OnOk};
 ghost use Rattle.raid_causes.specs.Histories.{letter_of};
 ghost use Rattle.raid_nodes.specs.Nodes.{AreSent};
 
-use crate::copying::copy_message;
 use raid_base::NoMemory;
 use raid_link::Sender;
 use raid_message::{Letter, Outs};
+use raid_world::copying::copy_message;
 use std::alloc::Global;
 
 /// Sends what a server has sent in its step with this clock, in the session that it has now, each message to its addressee, in order.

@@ -1,17 +1,17 @@
 //! What is told of the nodes at the end.
-ghost use Rattle.std.specs.Prelude.{◌≡◌, ◌≤◌, ◌<◌, ◌+◌, false, length, flat_map, IfOk};
+ghost use Rattle.std.specs.Prelude.{◌≡◌, ℕ, ◌<◌, false, length, flat_map, IfOk};
 ghost use Rattle.raid_workload.specs.declared.workload.Workload.{Workload};
 ghost use Rattle.raid_steps.specs.World as steps;
 ghost use Rattle.raid_steps.specs.World.{copy_lines};
 ghost use Rattle.raid_sequencer.specs.Runs as deciding;
-ghost use Rattle.raid_nodes.specs.Ran.{AllGo, AreServers};
+ghost use Rattle.raid_nodes.specs.Nodes.{IsServer, Goes};
+ghost use Rattle.raid_nodes.specs.Ran.{AllGo, AreServers, lines_at};
 
 use crate::node::ServerNode;
 use crate::server::Server;
 use raid_base::{CopyList, NoMemory, Report};
 use raid_control::Controller;
 use raid_sequencer::Sequencer;
-use raid_site::SiteServer;
 use raid_workload::Workload;
 use raid_world::telling::{copies_at, entries, finals, order};
 use std::alloc::Global;
@@ -30,6 +30,18 @@ fn sequencer_of(nodes: &[ServerNode]) -> &Sequencer
     }
 }
 
+/// The copies of the node's site; none of the monitor and of the sequencer.
+fn lines_of(alloc: Global, workload: &Workload, node: &ServerNode) -> Result<CopyList, NoMemory>
+    requires { Goes ⟦<dyn Controller as Controller>⟧ workload.now node.now }
+    ensures { IfOk result (λ lines. (k : ℕ) (s : steps.Servers) → IsServer k node.now.server s → lines ≡ lines_at k s) }
+{
+    match &node.server {
+        Server::Site(site) => copies_at(alloc, workload, site),
+        Server::Monitor(_) => Ok(CopyList::new(alloc)),
+        Server::Sequencer(_) => Ok(CopyList::new(alloc)),
+    }
+}
+
 /// The copies of all sites, in the order of the sites.
 fn copies_of(alloc: Global, workload: &Workload, nodes: &[ServerNode]) -> Result<CopyList, NoMemory>
     requires go { AllGo ⟦<dyn Controller as Controller>⟧ workload.now nodes.now }
@@ -38,10 +50,8 @@ fn copies_of(alloc: Global, workload: &Workload, nodes: &[ServerNode]) -> Result
 {
     let mut copies = CopyList::new(alloc);
     for node in nodes {
-        if let Server::Site(site) = &node.server {
-            let lines = copies_at(alloc, workload, site)?;
-            copies.push_all(lines.as_slice())?;
-        }
+        let lines = lines_of(alloc, workload, node)?;
+        copies.push_all(lines.as_slice())?;
     }
     Ok(copies)
 }
@@ -56,7 +66,7 @@ pub fn report_of(alloc: Global, workload: &Workload, nodes: &[ServerNode]) -> Re
 {
     let sequencer = sequencer_of(nodes);
     let history = sequencer.history();
-    if history.len() >= u32::MAX as usize {
+    if history.len() == u32::MAX {
         return Err(NoMemory);
     }
     let entries = entries(alloc, history)?;

@@ -61,6 +61,7 @@ impl Nodes {
         requires few { most ≤ 10000000 }
         ensures idle { IfOk result (λ r. r ≡ Rounds.Idle → Ran workload.now true self.new.nodes.items) }
         ensures spent { IfOk result (λ r. r ≡ Rounds.Spent → Ran workload.now false self.new.nodes.items × (most ≤ all_steps self.new.nodes.items)) }
+        ensures ran { OnOk result ((b : Bool) × Ran workload.now b self.new.nodes.items) }
         ensures go { OnOk result (AllGo ⟦<dyn Controller as Controller>⟧ workload.now self.new.nodes.items) }
     {
         let rounds = run_nodes(rt, alloc, &mut self.nodes, workload, gate, most)?;

@@ -3,7 +3,7 @@
 #![tactic(auto)]
 
 pub mod bound;
-mod copying;
+pub mod copying;
 pub mod opening;
 mod posting;
 pub mod servers;
