@@ -48,10 +48,10 @@ added_more k before mid after ss s r low a is sent given after_is = record {
     go j h within (inl q) = (
       r,
       subst (λ n. slice_index_or after n [] ≡ slice_index_or before n [] ++ r ∷ []) (sym q)
-      (
-      ap (λ rows. slice_index_or rows k []) after_is ∙ set_at mid k (slice_index_or mid k [] ++ r ∷ []) [] (let l = a.long in omega (arith, l, low))
-      ∙ ap (λ row. row ++ r ∷ []) (a.rest k (omega arith))
-      ),
+          (
+          ap (λ rows. slice_index_or rows k []) after_is ∙ set_at mid k (slice_index_or mid k [] ++ r ∷ []) [] (let l = a.long in omega (arith, l, low))
+          ∙ ap (λ row. row ++ r ∷ []) (a.rest k (omega arith))
+          ),
       λ e. subst (λ t. IsNew t r) (sym (ap (λ n. slice_index_or (ss ++ s ∷ []) n e) q ∙ last_at ss k s e a.many)) (record { link = is; sent = sent; given = given }),
     )
     go j h within (inr off) =

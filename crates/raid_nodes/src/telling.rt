@@ -58,7 +58,11 @@ fn copies_of(alloc: Global, workload: &Workload, nodes: &[ServerNode]) -> Result
 
 /// What is told of the nodes: the history, its serial order, each item's final value, and all copies. A history that is too long to be
 /// numbered counts as want of memory, which is the only error.
-pub fn report_of(alloc: Global, workload: &Workload, nodes: &[ServerNode]) -> Result<Report, NoMemory>
+pub fn report_of(
+    alloc: Global,
+    workload: &Workload,
+    nodes: &[ServerNode],
+) -> Result<Report, NoMemory>
     requires go { AllGo ⟦<dyn Controller as Controller>⟧ workload.now nodes.now }
     requires are { (s : steps.Servers) × AreServers workload.now nodes.now s }
     ensures is { IfOk result (λ report. (s : steps.Servers) → AreServers workload.now nodes.now s → report ≡ steps.report workload.now s) }

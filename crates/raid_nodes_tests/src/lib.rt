@@ -4,6 +4,6 @@
 
 #[cfg(test)]
 mod gates;
-pub mod texts;
 #[cfg(test)]
 mod tests;
+pub mod texts;

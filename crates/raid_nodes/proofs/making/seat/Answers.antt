@@ -10,7 +10,7 @@ loop-k-init g c =
     let outs_one = left_next 0 1 _ _ _ refl (left_none _) one.rest in
     let inputs_one = left_next 0 1 _ _ _ refl (left_none _) one.others in
     let first = seat_more _ w _ _ 0 1 _ _ [] c.push.new.self.items c.in_ok-new.field-0 _ refl (seated_none _ w _ _) (left_none _) (left_none _) c.first_monitor-monitor.ensures
-        one.number one.server one.clock one.journal one.outs one.inputs (c.in_ok-push.ensures.items ∙ ap (λ ns. ns ++ c.in_ok-new.field-0 ∷ []) c.new-nodes.ensures.items) in
+    one.number one.server one.clock one.journal one.outs one.inputs (c.in_ok-push.ensures.items ∙ ap (λ ns. ns ++ c.in_ok-new.field-0 ∷ []) c.new-nodes.ensures.items) in
     record {
       seated = seat_more _ w _ _ 1 2 _ _ c.push.new.self.items c.push-2.new.self.items c.in_ok-new-2.field-0 _ refl first outs_one inputs_one c.in_ok-sequencer.ensures
           two.number two.server two.clock two.journal two.outs two.inputs c.in_ok-push-2.ensures.items;

@@ -10,5 +10,5 @@ returns g c =
       c.settle.new.receiver,
       refl,
       ends_settled x.outs.items c.args.k c.index_mut.result.now c.settle.new.sender x.inputs.items c.args.k c.index_mut-2.result.now c.settle.new.receiver c.settle.result
-      c.requires.out c.index_mut.ensures.value c.requires.input c.index_mut-2.ensures.value s.same.0 s.same.1 s.sent s.given s.settled s.value,
+          c.requires.out c.index_mut.ensures.value c.requires.input c.index_mut-2.ensures.value s.same.0 s.same.1 s.sent s.given s.settled s.value,
     )

@@ -10,5 +10,5 @@ returns g c =
       refl,
       refl,
       ends_settled c.args.one.now.outs.items c.args.to c.index_mut.result.now c.settle.new.sender c.args.other.now.inputs.items c.args.from c.index_mut-2.result.now c.settle.new.receiver c.settle.result
-      c.requires.out c.index_mut.ensures.value c.requires.input c.index_mut-2.ensures.value s.same.0 s.same.1 s.sent s.given s.settled s.value,
+          c.requires.out c.index_mut.ensures.value c.requires.input c.index_mut-2.ensures.value s.same.0 s.same.1 s.sent s.given s.settled s.value,
     )
