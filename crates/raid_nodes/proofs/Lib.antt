@@ -10,5 +10,6 @@ pub mod Ending
 pub mod Runs
 pub mod Counted
 pub mod Reports
+pub mod Sited
 pub mod Links
 pub mod First

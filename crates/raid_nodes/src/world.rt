@@ -122,7 +122,8 @@ impl Nodes {
     {
         let mut nodes = self.nodes;
         let node = nodes.swap_remove(1);
-        match node.server {
+        let server = node.server;
+        match server {
             Server::Sequencer(sequencer) => sequencer.close(),
             _ => unreachable!(),
         }

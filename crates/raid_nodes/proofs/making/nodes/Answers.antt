@@ -30,8 +30,8 @@ welcome_all-requires-clause-none g c =
     let n = c.args.workload.now.sites + 2 in
     none_sent_yet n _ _ c.deref_mut.result.now all (omega arith) (row_is outs c.index_mut.result.now c.deref_mut.result.now (has_rows n outs _ (omega arith) all) c.index_mut.ensures.value c.deref_mut.ensures.value)
 
-pub seat-requires : goal.seat-requires
-seat-requires g c =
+pub seat-requires-clause-opened : goal.seat-requires-clause-opened
+seat-requires-clause-opened g c =
     let w = c.args.workload.now in
     let n = c.args.workload.now.sites + 2 in
     let all = c.in_ok-ends.ensures in
@@ -42,8 +42,6 @@ seat-requires g c =
     let welcomed = subst (λ (ss : List Sender). Welcomed w (w.sites + 2) ss after) is c.in_ok-welcome_all.ensures in
     let long : length c.welcome_all.new.senders ≡ length c.deref_mut.result.now = c.in_ok-welcome_all.ensures.long in
     let written = with_items_is row after (omega (arith, long, c.deref_mut.ensures.len)) in
-    record {
-      opened = subst (λ (rows : List (List Sender)). AreOpened w rows (map (λ (r : Vec Receiver Global). r.items) c.in_ok-ends.ends.inputs.items))
+    subst (λ (rows : List (List Sender)). AreOpened w rows (map (λ (r : Vec Receiver Global). r.items) c.in_ok-ends.ends.inputs.items))
           (sym (map-set (λ (r : Vec Sender Global). r.items) outs 1 _ ∙ ap (slice_set (map (λ (r : Vec Sender Global). r.items) outs) 1) written))
-          (opened w n (map (λ (r : Vec Sender Global). r.items) outs) (map (λ (r : Vec Receiver Global). r.items) c.in_ok-ends.ends.inputs.items) after refl all welcomed);
-    }
+          (opened w n (map (λ (r : Vec Sender Global). r.items) outs) (map (λ (r : Vec Receiver Global). r.items) c.in_ok-ends.ends.inputs.items) after refl all welcomed)
