@@ -1,0 +1,15 @@
+pub mod Steps
+pub mod Heard
+pub mod Fetches
+pub mod Made
+pub mod Places
+pub mod Settles
+pub mod Maps
+pub mod Together
+pub mod Ending
+pub mod Runs
+pub mod Counted
+pub mod Reports
+pub mod Sited
+pub mod Links
+pub mod First
