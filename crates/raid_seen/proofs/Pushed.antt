@@ -1,7 +1,6 @@
 -- What the tables say of a history with one more entry, and what they tell of it.
-use Rattle.std.proofs.Common.{◌≡◌, ℕ, ℤ, zero, suc, pos, ◌+◌, ◌*◌, ◌<◌, ◌≤◌, ◌==◌, nat_lt, Bool, true, false, ◌&&◌, ◌||◌, List, [], ◌∷◌, ◌++◌, map, length, get_or, Option, Some, None, unwrap_or, if◌then◌else◌, true≢false, length-append, refl, ap, sym, subst, arith, ◌∙◌}
-use Rattle.std.specs.Prelude.{count_by, fold, slice_get, slice_index_or, Result, Ok, Err, IfOk}
-use Rattle.std.specs.List.{list_any}
+use Rattle.std.proofs.Common.{◌≡◌, ℕ, ℤ, zero, suc, pos, ◌+◌, ◌*◌, ◌<◌, ◌≤◌, ◌==◌, nat_lt, Bool, true, false, ◌&&◌, ◌||◌, List, [], ◌∷◌, map, length, Option, Some, None, unwrap_or, if◌then◌else◌, true≢false, length-append, refl, ap, sym, subst, arith, ◌∙◌}
+use Rattle.std.specs.Prelude.{slice_get, slice_index_or, Result, Ok, Err, IfOk}
 use Rattle.std.specs.Option.{option_map_or}
 use Rattle.std.proofs.lemmas.Grind.{common_steps}
 use Rattle.std.proofs.lemmas.Bool.{eqb-true}
@@ -28,7 +27,7 @@ use Rattle.raid_legal.specs.Legal.{last_read, downs, ups, is_lost, is_asked, wan
 use Rattle.raid_seen.specs.declared.outages.Outage.{Outage}
 use Rattle.raid_seen.specs.declared.readings.LastRead.{LastRead}
 use Rattle.raid_seen.specs.declared.readings.Reading.{Reading}
-use Rattle.raid_seen.specs.Tables.{outage_of, turn_outage, answers_of, turn_answers, latest_of, turn_latest, is_lapsed, AreValues, IsRead, IsLatest, AreReadings, AreOutages}
+use Rattle.raid_seen.specs.Tables.{outage_of, turn_outage, answers_of, turn_answers, latest_of, turn_latest, is_lapsed, AreValues, IsLatest, AreReadings, AreOutages}
 
 -- the first values of the items, by the list of them
 pub initial_in : (lines : List ItemLine) (k : ℕ) → slice_index_or (map (λ (line : ItemLine). line.value) lines) k (pos 0) ≡ option_map_or (λ (line : ItemLine). line.value) (slice_get lines k) (pos 0)

@@ -1,4 +1,4 @@
-use Rattle.std.proofs.Common.{◌≡◌, Bool, List, sym, ◌∙◌}
+use Rattle.std.proofs.Common.{◌≡◌, List, sym, ◌∙◌}
 use Rattle.raid_base.specs.declared.entry.Entry.{Entry}
 use Rattle.raid_rules.specs.History.{noted}
 use Rattle.raid_legal.specs.Seen.{outcome}

@@ -1,4 +1,4 @@
-use Rattle.std.proofs.Common.{◌≡◌, pos, take, length, map, ap, arith, ◌∙◌}
+use Rattle.std.proofs.Common.{◌≡◌, pos, take, map, ap, arith, ◌∙◌}
 use Rattle.std.proofs.lemmas.List.{take_all}
 use Rattle.std.specs.Prelude.{slice_index_or}
 use Rattle.raid_workload.specs.declared.workload.ItemLine.{ItemLine}
