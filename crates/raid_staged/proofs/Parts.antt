@@ -28,11 +28,11 @@ use Rattle.raid_steps.specs.Programs as programs
 use Rattle.raid_steps.specs.Programs.{held_by, put_running, running_of, prepare_out, voters}
 use Rattle.raid_steps.specs.Site as rows
 use Rattle.raid_steps.specs.World.{link}
-use Rattle.raid_sessions.proofs.Lists.{all_append, all_weaken}
+use Rattle.raid_sessions.proofs.Lists.{all_append, all_weaken, same_self}
 use Rattle.raid_moves.specs.Moves as parts
-use Rattle.raid_moves.specs.Moves.{Ascend, Hears, Tells, Says, Given, comes_to, Goes, fresh, Begins, Row, next_of, passed, Move, Moves}
+use Rattle.raid_moves.specs.Moves.{Ascend, Hears, Tells, Says, Given, comes_to, Goes, fresh, Begins, Row, Starts, next_of, passed, Move, Moves}
 use Rattle.raid_moves.proofs.Places.{program_of, nothing, put_found, put_other, all_kept}
-use Rattle.raid_layers.proofs.Histories.{HasWait}
+use Rattle.raid_layers.proofs.AtSite.{Extends, goes_extends, moves_extend}
 use Rattle.raid_layers.proofs.Tokens.{OnLinks}
 use Rattle.raid_layers.proofs.Turns.{filtered_out, filtered_other}
 use Rattle.raid_staged.specs.Agree.{writes_at, writes_of, first_writes, IsPartOf, AsksPart}
@@ -116,7 +116,7 @@ module _ (w : Workload) (p : List Noted) (k : ℕ) (state : SiteState) (from : �
 
   -- of a program that asks or prepares
   abbrev pub RunNow : Turn SiteState → Txn → Option (List (Item × ℤ)) → Type 0
-  RunNow turn t o = Held t o turn × (First t o × ((q : Option (List (Item × ℤ))) → ToldIn turn t q → q ≡ o))
+  RunNow turn t o = (has_ended p t ≡ false → Held t o turn) × (First t o × ((q : Option (List (Item × ℤ))) → ToldIn turn t q → q ≡ o))
 
   abbrev pub OpenNow : Turn SiteState → Txn → Phase → Type 0
   OpenNow turn t (asking ask x q) = RunNow turn t None
@@ -126,7 +126,7 @@ module _ (w : Workload) (p : List Noted) (k : ℕ) (state : SiteState) (from : �
   pub record Now (turn : Turn SiteState) : Type 0 where
     pub place : turn.state.site ≡ site (k + 1)
     pub told : (t : Txn) (o : Option (List (Item × ℤ))) → ToldIn turn t o → Held t o turn × First t o
-    pub runs : (t : Txn) (r : Running) → running_of turn.state t ≡ Some r → has_ended p t ≡ false → OpenNow turn t r.phase
+    pub runs : (t : Txn) (r : Running) → running_of turn.state t ≡ Some r → OpenNow turn t r.phase
 
   -- more is sent
   sent_parted : (turn : Turn SiteState) (new outs : List Out) (t : Txn) (o : Option Writes) → outs ≡ turn.outs ++ new → SentAsk outs t o → SentAsk turn.outs t o ⊎ SentAsk new t o
@@ -134,7 +134,7 @@ module _ (w : Workload) (p : List Noted) (k : ℕ) (state : SiteState) (from : �
 
   module _ (turn after : Turn SiteState) (new : List Out) (more : after.outs ≡ turn.outs ++ new) where
     run_kept : (t : Txn) (o : Option Writes) → (Held t o turn → Held t o after) → ((q : Option Writes) → SentAsk new t q → ⊥) → RunNow turn t o → RunNow after t o
-    run_kept t o held unasked n = (held n.0, (n.1.0, each))
+    run_kept t o held unasked n = ((λ alive. held (n.0 alive)), (n.1.0, each))
       where
         each : (q : Option Writes) → ToldIn after t q → q ≡ o
         each q (inl told) = n.1.1 q (inl told)
@@ -147,23 +147,23 @@ module _ (w : Workload) (p : List Noted) (k : ℕ) (state : SiteState) (from : �
 
     -- a program that runs: as it did, and nothing is asked for it; or as it is said
     abbrev IsRunning : (Txn → Option Writes → Type 0) → Txn → Running → Type 0
-    IsRunning Okay t r = ((running_of turn.state t ≡ Some r) × (((o : Option Writes) → Okay t o) × ((q : Option Writes) → SentAsk new t q → ⊥))) ⊎ (has_ended p t ≡ false → OpenNow after t r.phase)
+    IsRunning Okay t r = ((running_of turn.state t ≡ Some r) × (((o : Option Writes) → Okay t o) × ((q : Option Writes) → SentAsk new t q → ⊥))) ⊎ OpenNow after t r.phase
 
     now_more : (Okay : Txn → Option Writes → Type 0) → after.state.site ≡ turn.state.site → ((t : Txn) (o : Option Writes) → Okay t o → Held t o turn → Held t o after) → ((t : Txn) (o : Option Writes) → ToldIn turn t o → Okay t o) →
         ((t : Txn) (o : Option Writes) → SentAsk new t o → Held t o after × First t o) → ((t : Txn) (r : Running) → running_of after.state t ≡ Some r → IsRunning Okay t r) → Now turn → Now after
     now_more Okay here held okay asked running n = record {
       place = here ∙ n.place;
       told = told;
-      runs = λ t r f alive. go t r alive (running t r f);
+      runs = λ t r f. go t r (running t r f);
     }
       where
         told : (t : Txn) (o : Option Writes) → ToldIn after t o → Held t o after × First t o
         told t o (inl h) = (held t o (okay t o (inl h)) (n.told t o (inl h)).0, (n.told t o (inl h)).1)
         told t o (inr h) = elim (sent_parted turn new after.outs t o more h) [ inl old ↦ (held t o (okay t o (inr old)) (n.told t o (inr old)).0, (n.told t o (inr old)).1) | inr now ↦ asked t o now ]
 
-        go : (t : Txn) (r : Running) → has_ended p t ≡ false → IsRunning Okay t r → OpenNow after t r.phase
-        go t r alive (inl (f, (fine, unasked))) = open_kept t r.phase (λ o. held t o (fine o)) unasked (n.runs t r f alive)
-        go t r alive (inr opens) = opens alive
+        go : (t : Txn) (r : Running) → IsRunning Okay t r → OpenNow after t r.phase
+        go t r (inl (f, (fine, unasked))) = open_kept t r.phase (λ o. held t o (fine o)) unasked (n.runs t r f)
+        go t r (inr opens) = opens
 
   -- what is sent is plain, and what is staged stays as it should be
   plain_ok : (t : Txn) (o : Option Writes) (new : List Out) → ArePlain new → OutsOk t o new
@@ -181,7 +181,7 @@ module _ (w : Workload) (p : List Noted) (k : ℕ) (state : SiteState) (from : �
   unasked_new new a t q (alive, (r, (h, is))) = plain_unasked new t r a h
 
   now_plain : (turn after : Turn SiteState) (new : List Out) → after.state.site ≡ turn.state.site → after.outs ≡ turn.outs ++ new → ArePlain new → ((t : Txn) (o : Option Writes) → Held t o turn → StagedOk t o after.state.staged) →
-      ((t : Txn) (r : Running) → running_of after.state t ≡ Some r → (running_of turn.state t ≡ Some r) ⊎ (has_ended p t ≡ false → OpenNow after t r.phase)) → Now turn → Now after
+      ((t : Txn) (r : Running) → running_of after.state t ≡ Some r → (running_of turn.state t ≡ Some r) ⊎ OpenNow after t r.phase) → Now turn → Now after
   now_plain turn after new here more plain staged running n =
       now_more turn after new more (λ t o. ⊤) here (λ t o fine h. (h.0, (staged t o h, outs_more t o turn after new more h.1.1 (plain_ok t o new plain)))) (λ t o h. tt) (λ t o h. absurd (unasked_new new plain t o h))
       (λ t r f. elim (running t r f) [ inl was ↦ inl (was, ((λ o. tt), unasked_new new plain t)) | inr now ↦ inr now ]) n
@@ -197,24 +197,24 @@ module _ (w : Workload) (p : List Noted) (k : ℕ) (state : SiteState) (from : �
       go false e = inl ((sym (put_other t now rs e) ∙ f), e)
 
   plain_puts : (turn after : Turn SiteState) (now : Running) (new : List Out) → after.state.site ≡ turn.state.site → after.state.staged ≡ turn.state.staged → after.state.running ≡ put_running now turn.state.running → after.outs ≡ turn.outs ++ new → ArePlain new →
-      (has_ended p now.txn ≡ false → OpenNow after now.txn now.phase) → Now turn → Now after
+      OpenNow after now.txn now.phase → Now turn → Now after
   plain_puts turn after now new here kept put more plain opens n =
       now_plain turn after new here more plain (λ t o h. subst (StagedOk t o) (sym kept) h.1.0)
       (λ t r f. elim (put_cases turn.state.running now t r (ap (program_of t) (sym put) ∙ f)) [
         | inl was ↦ inl was.0
-        | inr same ↦ inr (λ alive. subst (λ (z : Running). OpenNow after t z.phase) same.1 (subst (λ u. OpenNow after u now.phase) same.0 (opens (subst (λ u. has_ended p u ≡ false) (sym same.0) alive))))
+        | inr same ↦ inr (subst (λ (z : Running). OpenNow after t z.phase) same.1 (subst (λ u. OpenNow after u now.phase) same.0 opens))
       ]) n
 
   -- a program whose parts are sent, or staged here
   parts_puts : (turn after : Turn SiteState) (now : Running) (reads writes : Writes) (awaited : List Site) (new : List Out) → now.phase ≡ preparing reads writes awaited → after.state.site ≡ turn.state.site → after.state.running ≡ put_running now turn.state.running → after.outs ≡ turn.outs ++ new →
       ((t : Txn) (r : Request) → HasAsk new t r → ⊥) → ((t : Txn) (o : Option Writes) → ((now.txn.0 == t.0) ≡ true → o ≡ Some writes) → Held t o turn → StagedOk t o after.state.staged × OutsOk t o new) →
-      (has_ended p now.txn ≡ false → RunNow turn now.txn (Some writes)) → ((o : Option Writes) → ToldIn turn now.txn o → o ≡ Some writes) → Now turn → Now after
-  parts_puts turn after now reads writes awaited new is here put more unasked parts ready same n =
-      now_more turn after new more Okay here held (λ t o h e. same o (subst (λ u. ToldIn turn u o) (sym (its t e)) h)) (λ t o h. absurd (none t o h))
+      RunNow turn now.txn (Some writes) → Now turn → Now after
+  parts_puts turn after now reads writes awaited new is here put more unasked parts ready n =
+      now_more turn after new more Okay here held (λ t o h e. ready.1.1 o (subst (λ u. ToldIn turn u o) (sym (its t e)) h)) (λ t o h. absurd (none t o h))
       (λ t r f. elim (put_cases turn.state.running now t r (ap (program_of t) (sym put) ∙ f)) [
         | inl was ↦ inl (was.0, ((λ o e. absurd (true≢false (sym e ∙ was.1))), none t))
-        | inr both ↦ inr (λ alive. subst (λ (z : Running). OpenNow after t z.phase) both.1 (subst (λ u. OpenNow after u now.phase) both.0 (subst (OpenNow after now.txn) (sym is)
-            (run_kept turn after new more now.txn (Some writes) (held now.txn (Some writes) (λ e. refl)) (none now.txn) (ready (subst (λ u. has_ended p u ≡ false) (sym both.0) alive))))))
+        | inr both ↦ inr (subst (λ (z : Running). OpenNow after t z.phase) both.1 (subst (λ u. OpenNow after u now.phase) both.0 (subst (OpenNow after now.txn) (sym is)
+            (run_kept turn after new more now.txn (Some writes) (held now.txn (Some writes) (λ e. refl)) (none now.txn) ready))))
       ]) n
     where
       Okay : Txn → Option Writes → Type 0
@@ -230,9 +230,6 @@ module _ (w : Workload) (p : List Noted) (k : ℕ) (state : SiteState) (from : �
       held t o fine h = (h.0, ((parts t o fine h).0, outs_more t o turn after new more h.1.1 (parts t o fine h).1))
 
   -- a program goes on
-  none_run : (turn : Turn SiteState) (t : Txn) → RunNow turn t None → (o : Option Writes) → RunNow turn t o → RunNow turn t o
-  none_run turn t a o b = b
-
   comes_none : (r : Running) (x : Item) → (comes_to w r).end ≡ wants.Read x → writes_of (comes_to w r) ≡ None
   comes_none r x e = ap (λ z. writes_at z (comes_to w r).writes) e
 
@@ -262,17 +259,16 @@ module _ (w : Workload) (p : List Noted) (k : ℕ) (state : SiteState) (from : �
       all_append (λ (e : Txn × List (Item × ℤ)). is_txn t e.0 ≡ true → IsPartOf w (site (k + 1)) o e.1) (unstage u staged) ((u, pairs) ∷ [])
       (all_kept (λ (e : Txn × List (Item × ℤ)). is_txn t e.0 ≡ true → IsPartOf w (site (k + 1)) o e.1) (λ e. not (is_txn u e.0)) staged a) (fine, tt)
 
-  goes_now : (turn : Turn SiteState) (r : Running) {after : Turn SiteState} → Goes w turn r after → (has_ended p r.txn ≡ false → RunNow turn r.txn (writes_of (comes_to w r))) →
-      ((o : Option Writes) → ToldIn turn r.txn o → o ≡ writes_of (comes_to w r)) → Now turn → Now after
-  goes_now turn r (parts.reads_next x e) ready same n =
+  goes_now : (turn : Turn SiteState) (r : Running) {after : Turn SiteState} → Goes w turn r after → RunNow turn r.txn (writes_of (comes_to w r)) → Now turn → Now after
+  goes_now turn r (parts.reads_next x e) ready n =
       plain_puts turn (programs.ask turn r x) (record r { asks = r.asks + 1; phase = asking (r.asks + 1) x None }) ((1, 0, letters.ReadAsk r.txn (r.asks + 1) x) ∷ []) refl refl refl refl (tt, tt)
-      (λ alive. run_plain turn (programs.ask turn r x) ((1, 0, letters.ReadAsk r.txn (r.asks + 1) x) ∷ []) r.txn None refl (tt, tt) refl (subst (RunNow turn r.txn) (comes_none r x e) (ready alive))) n
-  goes_now turn r (parts.stops e) ready same n = plain_puts turn _ (record r { phase = sent }) ((1, 0, letters.EndAsk r.txn _ (comes_to w r).reads) ∷ []) refl refl refl refl (tt, tt) (λ alive. tt) n
-  goes_now turn r (parts.overflows e) ready same n = plain_puts turn _ (record r { phase = sent }) ((1, 0, letters.EndAsk r.txn _ (comes_to w r).reads) ∷ []) refl refl refl refl (tt, tt) (λ alive. tt) n
-  goes_now turn r (parts.prepares e) ready same n =
+      (run_plain turn (programs.ask turn r x) ((1, 0, letters.ReadAsk r.txn (r.asks + 1) x) ∷ []) r.txn None refl (tt, tt) refl (subst (RunNow turn r.txn) (comes_none r x e) ready)) n
+  goes_now turn r (parts.stops e) ready n = plain_puts turn _ (record r { phase = sent }) ((1, 0, letters.EndAsk r.txn _ (comes_to w r).reads) ∷ []) refl refl refl refl (tt, tt) tt n
+  goes_now turn r (parts.overflows e) ready n = plain_puts turn _ (record r { phase = sent }) ((1, 0, letters.EndAsk r.txn _ (comes_to w r).reads) ∷ []) refl refl refl refl (tt, tt) tt n
+  goes_now turn r (parts.prepares e) ready n =
       parts_puts turn (programs.prepare w turn r (comes_to w r)) now (comes_to w r).reads writes vs (map (prepare_out w turn.state.vector r.txn writes) vs) refl (here (holds_some w writes turn.state.site)) (runs (holds_some w writes turn.state.site)) refl
       (prepares_ask turn.state.vector r.txn writes vs) (λ t o fine h. (staged t o fine h.1.0 (holds_some w writes turn.state.site), prepares_parts turn.state.vector r.txn writes vs t o fine))
-      (λ alive. subst (RunNow turn r.txn) (comes_some r e) (ready alive)) (λ o h. same o h ∙ comes_some r e) n
+      (subst (RunNow turn r.txn) (comes_some r e) ready) n
     where
       writes : Writes
       writes = (comes_to w r).writes
@@ -300,10 +296,76 @@ module _ (w : Workload) (p : List Noted) (k : ℕ) (state : SiteState) (from : �
 
   begins_now : (unbegun : (t : Txn) → has_begun p t ≡ false → Told t (first_writes w t)) (turn : Turn SiteState) (t : Txn) {after : Turn SiteState} → Begins w turn t after → has_begun p t ≡ false → Now turn → Now after
   begins_now unbegun turn t g new n =
-      goes_now begun (fresh t) g (λ alive. ((one.told t (first_writes w t) (inl (unbegun t new))).0, ((λ b. refl), λ o h. (one.told t o h).1 new))) (λ o h. (one.told t o h).1 new) one
+      goes_now begun (fresh t) g ((λ alive. (one.told t (first_writes w t) (inl (unbegun t new))).0), ((λ b. refl), λ o h. (one.told t o h).1 new)) one
     where
       begun : Turn SiteState
       begun = tell turn (letters.Begin t)
 
       one : Now (tell turn (letters.Begin t))
       one = now_plain turn (tell turn (letters.Begin t)) ((1, 0, letters.Begin t) ∷ []) refl refl (tt, tt) (λ u o h. h.1.0) (λ u r f. inl f) n
+
+  module _ (unbegun : (t : Txn) → has_begun p t ≡ false → Told t (first_writes w t)) where
+    -- a Begin that is sent is of who hasn't begun
+    sent_fresh : (outs more last : List Out) (t : Txn) → last ≡ (outs ++ (1, 0, letters.Begin t) ∷ []) ++ more → AreFresh p last → has_begun p t ≡ false
+    sent_fresh outs more last t is a =
+        (all_last (λ (out : Out). IsFresh p out.0 out.2) outs ((1, 0, letters.Begin t) ∷ []) (all_first (λ (out : Out). IsFresh p out.0 out.2) (outs ++ (1, 0, letters.Begin t) ∷ []) more (subst (AreFresh p) is a))).0 refl
+
+    start_heard : Starts w state from letter → Hears state letter
+    start_heard (parts.at_welcome v z e) = e.heard
+    start_heard (parts.at_done t e) = e.heard
+    start_heard (parts.at_drop t again e) = e.heard
+
+    begun_new : (turn : Turn SiteState) (t : Txn) {after : Turn SiteState} → Begins w turn t after → (last : Turn SiteState) → Extends w after last → AreFresh p last.outs → has_begun p t ≡ false
+    begun_new turn t {after = after} g last more a =
+        let further = goes_extends w (tell turn (letters.Begin t)) (fresh t) g in
+        sent_fresh turn.outs (further.0 ++ more.0) last.outs t (more.1 ∙ ap (λ outs. outs ++ more.0) further.1 ∙ append_assoc (turn.outs ++ (1, 0, letters.Begin t) ∷ []) further.0 more.0) a
+
+    its : (turn : Turn SiteState) (r : Running) {phase : Phase} → running_of turn.state r.txn ≡ Some r → r.phase ≡ phase → Now turn → OpenNow turn r.txn phase
+    its turn r f is n = subst (OpenNow turn r.txn) is (n.runs r.txn r f)
+
+    move_now : {turn after : Turn SiteState} → Move w state from letter turn after → (last : Turn SiteState) → Extends w after last → (Hears state letter → AreFresh p last.outs) → Now turn → Now after
+    move_now {turn = turn} (parts.begins s z l g) last more a n =
+        begins_now unbegun (passed w turn) (next_of turn) g (begun_new (passed w turn) (next_of turn) g last more (a (start_heard s))) (record { place = n.place; told = n.told; runs = n.runs })
+    move_now {turn = turn} (parts.asks r ask x s q f ph m y) last more a n =
+        plain_puts turn (programs.ask turn r x) (record r { asks = r.asks + 1; phase = asking (r.asks + 1) x None }) ((1, 0, letters.ReadAsk r.txn (r.asks + 1) x) ∷ []) refl refl refl refl (tt, tt)
+        (run_plain turn (programs.ask turn r x) ((1, 0, letters.ReadAsk r.txn (r.asks + 1) x) ∷ []) r.txn None refl (tt, tt) refl (its turn r f ph n)) n
+    move_now {turn = turn} (parts.loses r told writes awaited s f ph m) last more a n =
+        plain_puts turn (programs.with_running turn (record r { phase = preparing told writes (parts.but s awaited) })) (record r { phase = preparing told writes (parts.but s awaited) }) [] refl refl refl (sym (append-nil turn.outs)) tt
+        (run_plain turn (programs.with_running turn (record r { phase = preparing told writes (parts.but s awaited) })) [] r.txn (Some writes) (sym (append-nil turn.outs)) tt refl (its turn r f ph n)) n
+    move_now {turn = turn} (parts.joins r told writes awaited s z f ph m y) last more a n =
+        parts_puts turn _ (record r { phase = preparing told writes (programs.with_vote s awaited) }) told writes (programs.with_vote s awaited) (prepare_out w turn.state.vector r.txn writes s ∷ []) refl refl refl refl
+        (λ t q h. prepares_ask turn.state.vector r.txn writes (s ∷ []) t q h) (λ t o fine h. (h.1.0, (prepare_part turn.state.vector r.txn writes s t o fine, tt))) (its turn r f ph n) n
+    move_now {turn = turn} (parts.commits r told writes f ph m) last more a n =
+        now_more turn after new refl (λ t o. ⊤) refl (λ t o fine h. held t o h) (λ t o h. tt) asked running n
+      where
+        new : List Out
+        new = (1, 0, letters.CommitAsk r.txn (record { reads = told; writes = writes; under = turn.state.vector })) ∷ []
+
+        after : Turn SiteState
+        after = tell (programs.with_running turn (record r { phase = sent })) (letters.CommitAsk r.txn (record { reads = told; writes = writes; under = turn.state.vector }))
+
+        ready : RunNow turn r.txn (Some writes)
+        ready = its turn r f ph n
+
+        held : (t : Txn) (o : Option Writes) → Held t o turn → Held t o after
+        held t o h = (h.0, (h.1.0, outs_more t o turn after new refl h.1.1 (tt, tt)))
+
+        its_ask : (t : Txn) (o : Option Writes) (q : Request) → HasAsk new t q → o ≡ Some q.writes → (r.txn ≡ t) × (o ≡ Some writes)
+        its_ask t o q (inl is) same = (let txns : r.txn ≡ t = cc is in let writes_are : writes ≡ q.writes = cc is in (txns, same ∙ ap Some (sym writes_are)))
+        its_ask t o q (inr none) same = absurd none
+
+        asked : (t : Txn) (o : Option Writes) → SentAsk new t o → Held t o after × First t o
+        asked t o (alive, (q, (h, same))) =
+            let its = its_ask t o q h same in
+            subst (λ z. Held z o after × First z o) its.0
+            (subst (λ z. Held r.txn z after × First r.txn z) (sym its.1) (held r.txn (Some writes) (ready.0 (subst (λ u. has_ended p u ≡ false) (sym its.0) alive)), ready.1.0))
+
+        running : (t : Txn) (q : Running) → running_of after.state t ≡ Some q → IsRunning turn after new refl (λ t o. ⊤) t q
+        running t q g = elim (put_cases turn.state.running (record r { phase = sent }) t q g) [
+          | inl was ↦ inl (was.0, ((λ o. tt), λ o h. (let its = its_ask t o h.1.0 h.1.1.0 h.1.1.1 in absurd (true≢false (sym (same_self t.0) ∙ subst (λ (z : Txn). (z.0 == t.0) ≡ false) its.0 was.1)))))
+          | inr both ↦ inr (subst (λ (z : Running). OpenNow after t z.phase) both.1 tt)
+        ]
+
+    moves_now : {turn last : Turn SiteState} → Moves w state from letter turn last → (Hears state letter → AreFresh p last.outs) → Now turn → Now last
+    moves_now parts.done a n = n
+    moves_now {last = last} (parts.moves m rest) a n = moves_now rest a (move_now m last (moves_extend w state from letter rest) a n)
