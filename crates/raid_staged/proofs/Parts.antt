@@ -369,3 +369,83 @@ module _ (w : Workload) (p : List Noted) (k : ℕ) (state : SiteState) (from : �
     moves_now : {turn last : Turn SiteState} → Moves w state from letter turn last → (Hears state letter → AreFresh p last.outs) → Now turn → Now last
     moves_now parts.done a n = n
     moves_now {last = last} (parts.moves m rest) a n = moves_now rest a (move_now m last (moves_extend w state from letter rest) a n)
+
+    -- the rows, given what is so before the step
+    module _ (at_home : state.site ≡ site (k + 1)) (old_told : (t : Txn) (o : Option (List (Item × ℤ))) → Told t o → Old t o × (has_begun p t ≡ false → o ≡ first_writes w t)) (old_staged : (t : Txn) (o : Option (List (Item × ℤ))) → Old t o → StagedOk t o state.staged)
+        (none_any : (t : Txn) (o : Option (List (Item × ℤ))) → Old t None → Old t o)
+        (old_prepare : (i : ℕ) (u : Txn) (pairs : List (Item × ℤ)) (t : Txn) (o : Option (List (Item × ℤ))) → Says w state from letter i (letters.Prepare u pairs) → Old t o → is_txn t u ≡ true → IsPartOf w (site (k + 1)) o pairs)
+        (old_runs : (t : Txn) (r : Running) → running_of state t ≡ Some r → OpenNow (opened state) t r.phase)
+        (untold : (t : Txn) (r : Running) (ask : ℕ) (x : Item) (q : Option Site) → running_of state t ≡ Some r → r.phase ≡ asking ask x q → (o : Option (List (Item × ℤ))) → Told t o → has_begun p t ≡ false)
+        (given_begun : (t : Txn) (ask : ℕ) (v : ℤ) → Given w state from letter t ask v → has_begun p t ≡ true) where
+      opening : Now (opened state)
+      opening = record { place = at_home; told = told; runs = old_runs }
+        where
+          told : (t : Txn) (o : Option Writes) → ToldIn (opened state) t o → Held t o (opened state) × First t o
+          told t o (inl h) = (let old = old_told t o h in ((old.0, (old_staged t o old.0, tt)), old.1))
+          told t o (inr h) = absurd h.1.1.0
+
+      found_left : (t u : Txn) (r : Running) (rs : List Running) → program_of u (filter (λ (r : Running). not (is_txn t r.txn)) rs) ≡ Some r → program_of u rs ≡ Some r
+      found_left t u r rs f = go (t.0 == u.0) refl
+        where
+          go : (b : Bool) → (t.0 == u.0) ≡ b → program_of u rs ≡ Some r
+          go true e =
+              let same : u ≡ t = ap (λ n. let z : Txn = record { 0 = n } in z) (sym (eqb-true t.0 u.0 e)) in
+              absurd (nothing (sym (filtered_out t rs) ∙ subst (λ z. program_of z (filter (λ (r : Running). not (is_txn t r.txn)) rs) ≡ Some r) same f))
+          go false e = sym (filtered_other t u rs e) ∙ f
+
+      left_ok : (t u : Txn) (o : Option Writes) → StagedOk t o state.staged → StagedOk t o (unstage u state.staged)
+      left_ok t u o a = all_kept (λ (e : Txn × List (Item × ℤ)). is_txn t e.0 ≡ true → IsPartOf w (site (k + 1)) o e.1) (λ e. not (is_txn u e.0)) state.staged a
+
+      dropped_now : (u : Txn) → Now (parts.drops state u)
+      dropped_now u = now_plain (opened state) (parts.drops state u) [] refl refl tt (λ t o h. left_ok t u o h.1.0) (λ t r f. inl (found_left u t r state.running f)) opening
+
+      -- nothing is staged or put
+      still_now : (after : Turn SiteState) (new : List Out) → after.state.site ≡ state.site → after.state.staged ≡ state.staged → after.state.running ≡ state.running → after.outs ≡ new → ArePlain new → Now after
+      still_now after new here kept same more plain = now_plain (opened state) after new here more plain (λ t o h. subst (StagedOk t o) (sym kept) h.1.0) (λ t r f. inl (ap (program_of t) (sym same) ∙ f)) opening
+
+      given_now : (r : Running) (ask : ℕ) (x : Item) (q : Option Site) (v : ℤ) → running_of state r.txn ≡ Some r → r.phase ≡ asking ask x q → Given w state from letter r.txn ask v → {after : Turn SiteState} → Goes w (opened state) (record r { answers = put r.answers x v }) after → Now after
+      given_now r ask x q v f ph g gg = goes_now (opened state) (record r { answers = put r.answers x v }) gg ((λ alive. any (none.0 alive)), ((λ new. absurd (begun new)), λ o h. absurd (told o h))) opening
+        where
+          target : Option Writes
+          target = writes_of (comes_to w (record r { answers = put r.answers x v }))
+
+          none : RunNow (opened state) r.txn None
+          none = its (opened state) r f ph opening
+
+          any : Held r.txn None (opened state) → Held r.txn target (opened state)
+          any h = (let old = none_any r.txn target h.0 in (old, (old_staged r.txn target old, tt)))
+
+          begun : has_begun p r.txn ≡ false → ⊥
+          begun new = true≢false (sym (given_begun r.txn ask v g) ∙ new)
+
+          told : (o : Option Writes) → ToldIn (opened state) r.txn o → ⊥
+          told o (inl h) = begun (untold r.txn r ask x q f ph o h)
+          told o (inr h) = h.1.1.0
+
+      row_now : {after : Turn SiteState} → Row w state from letter after → (last : Turn SiteState) → Extends w after last → (Hears state letter → AreFresh p last.outs) → Now after
+      row_now (parts.halts u f e) last more a = now_plain (opened state) _ ((0, 0, letters.Halted) ∷ []) refl refl (tt, tt) (λ t o h. tt) (λ t r f. absurd (nothing f)) opening
+      row_now (parts.returns u f e) last more a = still_now _ ((1, 0, letters.Hello) ∷ []) refl refl refl refl (tt, tt)
+      row_now (parts.refuses i u writes v f l e) last more a = still_now _ ((i + 2, letter.from, letters.Vote u (No letter.to state.session)) ∷ []) refl refl refl refl (tt, tt)
+      row_now (parts.idle i) last more a = opening
+      row_now (parts.welcomed v z e) last more a = still_now _ [] refl refl refl refl tt
+      row_now (parts.served u ask x h z c e q o) last more a = still_now _ ((h.0 + 1, z, letters.Value u ask c.value) ∷ []) refl refl refl refl (tt, tt)
+      row_now (parts.notes r ask x q s f ph e) last more a =
+          plain_puts (opened state) (programs.with_running (opened state) (record r { phase = asking ask x (Some s) })) (record r { phase = asking ask x (Some s) }) [] refl refl refl refl tt
+          (run_plain (opened state) (programs.with_running (opened state) (record r { phase = asking ask x (Some s) })) [] r.txn None refl tt refl (its (opened state) r f ph opening)) opening
+      row_now (parts.applied u number ps e q) last more a = now_plain (opened state) _ ((1, 0, letters.Ack u) ∷ []) refl refl (tt, tt) (λ t o h. left_ok t u o h.1.0) (λ t r f. inl f) opening
+      row_now (parts.over u e) last more a = now_plain (opened state) _ [] refl refl tt (λ t o h. h.1.0) (λ t r f. inl (found_left u t r state.running f)) opening
+      row_now (parts.dropped u again e q) last more a = dropped_now u
+      row_now (parts.retried u e q g) last more a = begins_now unbegun (parts.drops state u) (programs.next_attempt w u) g (begun_new (parts.drops state u) (programs.next_attempt w u) g last more (a e.heard)) (dropped_now u)
+      row_now (parts.falls s e) last more a = still_now _ [] refl refl refl refl tt
+      row_now (parts.rises s z e) last more a = still_now _ [] refl refl refl refl tt
+      row_now (parts.copies x target z c e q) last more a = still_now _ ((target.0 + 1, z, letters.CopyValue x c.value c.version) ∷ []) refl refl refl refl (tt, tt)
+      row_now (parts.staged i u writes e) last more a =
+          now_plain (opened state) _ (((site (i + 1)).0 + 1, letter.from, letters.Vote u Yes) ∷ []) refl refl (tt, tt) (λ t o h. staged_more t u o writes state.staged (λ same. old_prepare i u writes t o e h.0 same) h.1.0) (λ t r f. inl f) opening
+      row_now (parts.counts i r told writes awaited f ph e q) last more a =
+          plain_puts (opened state) (programs.with_running (opened state) (record r { phase = preparing told writes (parts.but (site (i + 1)) awaited) })) (record r { phase = preparing told writes (parts.but (site (i + 1)) awaited) }) [] refl refl refl refl tt
+          (run_plain (opened state) (programs.with_running (opened state) (record r { phase = preparing told writes (parts.but (site (i + 1)) awaited) })) [] r.txn (Some writes) refl tt refl (its (opened state) r f ph opening)) opening
+      row_now (parts.renewed i x v version c e q l) last more a = still_now _ ((1, 0, letters.CopyDone x version) ∷ []) refl refl refl refl (tt, tt)
+      row_now (parts.given r ask x q v f ph g gg) last more a = given_now r ask x q v f ph g gg
+
+      pub step_now : {last : Turn SiteState} → parts.Reached w state from letter last → (Hears state letter → AreFresh p last.outs) → Now last
+      step_now {last = last} (after, (row, rest)) a = moves_now rest a (row_now row last (moves_extend w state from letter rest) a)
