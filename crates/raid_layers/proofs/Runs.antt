@@ -85,7 +85,7 @@ module _ (w : Workload) where
       talks k state at = subst (TalksAt w (noted (open_world w).servers.sequencer.history) (open_world w).links k) (first_state w 1 w.sites k state at) (λ up last t. inr (none k t))
 
   module _ (reads : Reads) (gives : (schedule : List Pick) → Gives (run w schedule).servers) where
-    landed : (schedule : List Pick) → Landed w (run w schedule).servers (run w schedule).links
+    pub landed : (schedule : List Pick) → Landed w (run w schedule).servers (run w schedule).links
     landed schedule = record {
       holds = reached w schedule;
       homes = (reached_all w schedule).1.0;

@@ -94,6 +94,28 @@ module _ (w : Workload) where
       untrue true q = refl
       untrue false q = absurd (true≢false q)
 
+  module _ (from : ℕ) (letter : Letter) where
+    -- an entry that is no Wait leaves those that there are
+    pub no_wait : (r : List Noted) (e : Entry) → IsLater w from letter r e → (t : Txn) (request : Request) → HasWait (add r e) t request → HasWait r t request
+    no_wait r e y t request h = go r (next r e) refl h
+      where
+        not_wait : (e : Entry) → IsLater w from letter r e → e ≡ Wait t request → ⊥
+        not_wait (Wait u q) y is = y
+        not_wait (Read u x s) y is = cc is
+        not_wait other y is = cc is
+
+        go : (ns : List Noted) (n : Noted) → n.entry ≡ e → HasWait (ns ++ n ∷ []) t request → HasWait ns t request
+        go [] n same (inl is) = absurd (not_wait e y (sym same ∙ is))
+        go [] n same (inr more) = more
+        go (z ∷ ns) n same (inl is) = inl is
+        go (z ∷ ns) n same (inr more) = inr (go ns n same more)
+
+    -- nor do other entries
+    pub chain_waits : (a b : Turn Sequencer) → Chain w from letter a b → (t : Txn) (r : Request) → HasWait (so_far b) t r → HasWait (so_far a) t r
+    chain_waits a b done t r h = h
+    chain_waits a b (places ask e y rest) t r h = no_wait (so_far a) e y t r (subst (λ z. HasWait z t r) (noted_push a.state.history e) (chain_waits (place w ask a e) b rest t r h))
+    chain_waits a b (sends {next = next} outs same is other rest) t r h = subst (λ z. HasWait (noted z) t r) same (chain_waits next b rest t r h)
+
   module _ (from : ℕ) (letter : Letter) (p q : List Noted) (places_of : List SiteState) (inside : (j : ℕ) (s : SiteState) → slice_get places_of j ≡ Some s → knows_site w (site (j + 1)) ≡ true)
       (follows : (s : Site) → last_session p s ≤ last_session q s) where
     -- what was asked for is staged
@@ -130,27 +152,6 @@ module _ (w : Workload) where
         go true q false = (each s q, tt)
         go false q true = (none_fit (s.0 + 1) (session (vector w r) s) (letters.Done t) tt, tt)
         go false q false = tt
-
-    -- an entry that is no Wait leaves those that there are
-    no_wait : (r : List Noted) (e : Entry) → IsLater w from letter r e → (t : Txn) (request : Request) → HasWait (add r e) t request → HasWait r t request
-    no_wait r e y t request h = go r (next r e) refl h
-      where
-        not_wait : (e : Entry) → IsLater w from letter r e → e ≡ Wait t request → ⊥
-        not_wait (Wait u q) y is = y
-        not_wait (Read u x s) y is = cc is
-        not_wait other y is = cc is
-
-        go : (ns : List Noted) (n : Noted) → n.entry ≡ e → HasWait (ns ++ n ∷ []) t request → HasWait ns t request
-        go [] n same (inl is) = absurd (not_wait e y (sym same ∙ is))
-        go [] n same (inr more) = more
-        go (z ∷ ns) n same (inl is) = inl is
-        go (z ∷ ns) n same (inr more) = inr (go ns n same more)
-
-    -- nor do other entries
-    pub chain_waits : (a b : Turn Sequencer) → Chain w from letter a b → (t : Txn) (r : Request) → HasWait (so_far b) t r → HasWait (so_far a) t r
-    chain_waits a b done t r h = h
-    chain_waits a b (places ask e y rest) t r h = no_wait (so_far a) e y t r (subst (λ z. HasWait z t r) (noted_push a.state.history e) (chain_waits (place w ask a e) b rest t r h))
-    chain_waits a b (sends {next = next} outs same is other rest) t r h = subst (λ z. HasWait (noted z) t r) same (chain_waits next b rest t r h)
 
     module _ (asked : (t : Txn) (r : Request) → IsAskedFor w from letter t r → IsGood t r) where
       entry_fit : (h : List Entry) (ask : ℕ) (e : Entry) → Grows p (noted h) → ((t : Txn) (r : Request) → HasWait (noted h) t r → IsGood t r) → IsLater w from letter (noted h) e → AreFit (rows.sends w (noted (h ++ e ∷ [])) ask e)
@@ -199,7 +200,7 @@ module _ (w : Workload) where
       chain_fit a b (places ask e y rest) grows waits fit =
           let now = so_far (place w ask a e) in
           chain_fit (place w ask a e) b rest (λ test h. subst (λ r. list_any test r ≡ true) (sym (noted_push a.state.history e)) (any_kept test (so_far a) (next (so_far a) e) (grows test h)))
-          (λ t r h. waits t r (no_wait (so_far a) e y t r (subst (λ z. HasWait z t r) (noted_push a.state.history e) h)))
+          (λ t r h. waits t r (no_wait from letter (so_far a) e y t r (subst (λ z. HasWait z t r) (noted_push a.state.history e) h)))
           (all_append (λ (out : Out). IsFit out.0 out.1 out.2) a.outs (rows.sends w (noted (a.state.history ++ e ∷ [])) ask e) fit (entry_fit a.state.history ask e grows waits y))
       chain_fit a b (sends {next = next} outs same is other rest) grows waits fit =
           chain_fit next b rest (subst (λ h. Grows p (noted h)) (sym same) grows) (subst (λ h. (t : Txn) (r : Request) → HasWait (noted h) t r → IsGood t r) (sym same) waits)

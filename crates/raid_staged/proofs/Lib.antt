@@ -1,6 +1,7 @@
 pub mod Applied
 pub mod Ends
 pub mod Kept
+pub mod PartWorlds
 pub mod Parts
 pub mod Runs
 pub mod SiteWorlds

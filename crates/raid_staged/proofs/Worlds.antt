@@ -57,13 +57,13 @@ wait_says w p (n ∷ ns) t r a (inl is) = subst (WaitSays w p) is a.0
 wait_says w p (n ∷ ns) t r a (inr more) = wait_says w p ns t r a.1 more
 
 -- with one more entry
-last_wait : (ns : List Noted) (n : Noted) (t : Txn) (r : Request) → HasWait (ns ++ n ∷ []) t r → HasWait ns t r ⊎ (n.entry ≡ Wait t r)
+pub last_wait : (ns : List Noted) (n : Noted) (t : Txn) (r : Request) → HasWait (ns ++ n ∷ []) t r → HasWait ns t r ⊎ (n.entry ≡ Wait t r)
 last_wait [] n t r (inl is) = inr is
 last_wait [] n t r (inr more) = inl more
 last_wait (z ∷ ns) n t r (inl is) = inl (inl is)
 last_wait (z ∷ ns) n t r (inr more) = elim (last_wait ns n t r more) [ inl old ↦ inl (inr old) | inr now ↦ inr now ]
 
-none_there : (rs : List Running) (t : Txn) (r : Running) → rs ≡ [] → program_of t rs ≡ Some r → ⊥
+pub none_there : (rs : List Running) (t : Txn) (r : Running) → rs ≡ [] → program_of t rs ≡ Some r → ⊥
 none_there rs t r e f = nothing (sym (ap (program_of t) e) ∙ f)
 
 module _ (w : Workload) where
@@ -232,6 +232,6 @@ module _ (w : Workload) where
               record {
                 on_links = step_all (LetterStaged q sites) 1 from 0 clock letter rest now.outs state.links front
                     (chain_fit w from letter p q sites known_place later.last asked first now chain s.grows s.good s.fit) later_links;
-                waits = λ t r h. (let good = s.good t r (chain_waits w from letter p q sites known_place later.last first now chain t r h) in later_are t r.writes r.under good.1 good.0);
+                waits = λ t r h. (let good = s.good t r (chain_waits w from letter first now chain t r h) in later_are t r.writes r.under good.1 good.0);
                 prepared = λ k s at up last t r f. later_prepared k s (landed.says.reached.vectors k s at) t r.phase (before k s at t r f);
               }
