@@ -33,7 +33,7 @@ use Rattle.raid_staged.specs.Staged.{AreStaged, VoteStaged, AskStaged, WaitStage
 use Rattle.raid_staged.proofs.SiteWorlds.{site_staged}
 use Rattle.raid_staged.proofs.Worlds.{LetterStaged, PreparedAt, AllStaged, Landed, monitor_staged, sequencer_staged}
 
-nobody : (xs : List SiteState) (k : ℕ) → slice_get xs k ≡ None → k < length xs → ⊥
+pub nobody : (xs : List SiteState) (k : ℕ) → slice_get xs k ≡ None → k < length xs → ⊥
 nobody [] k q below = omega (arith, below)
 nobody (x ∷ xs) zero q below = cc q
 nobody (x ∷ xs) (suc k) q below = nobody xs k q (omega (arith, below))
@@ -92,7 +92,7 @@ module _ (w : Workload) where
     prepared = λ k s at. subst (PreparedAt w [] (open_world w).servers.sites k) (first_state w 1 w.sites k s at) (λ up last t r f. absurd (nothing f));
   }
 
-  landed : (schedule : List Pick) → Landed w (run w schedule)
+  pub landed : (schedule : List Pick) → Landed w (run w schedule)
   landed schedule = record { says = reaches w schedule; cares = (reached_all w schedule).1.1 }
 
   step : (schedule : List Pick) (p : Pick) → At (run w schedule) → At (run w (schedule ++ p ∷ []))
