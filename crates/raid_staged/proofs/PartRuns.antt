@@ -1,6 +1,6 @@
 -- In every run, the parts of writes are those of the writes that are to be committed.
-use Rattle.std.proofs.Common.{◌≡◌, inl, inr, ℕ, ℤ, zero, suc, ◌+◌, ◌-◌, ◌<◌, ◌≤◌, ◌==◌, Bool, true, false, List, [], ◌∷◌, ◌++◌, length, map, replicate, Option, Some, None, arith, sym, subst, ap, refl, append-nil, append_assoc}
-use Rattle.std.specs.Prelude.{⊤, max, slice_get, slice_set, slice_index, slice_index_or}
+use Rattle.std.proofs.Common.{◌≡◌, inl, inr, ℕ, ℤ, zero, suc, ◌+◌, ◌-◌, true, false, List, [], ◌∷◌, ◌++◌, map, replicate, Option, Some, None, arith, sym, subst, ap, refl, append-nil, append_assoc}
+use Rattle.std.specs.Prelude.{max, slice_get, slice_set, slice_index, slice_index_or}
 use Rattle.std.specs.List.{AllByRecursion}
 use Rattle.std.specs.Option.{option_map_or}
 use Rattle.std.proofs.lemmas.List.Sums.{fold-append}
@@ -25,7 +25,7 @@ use Rattle.raid_steps.specs.State.{Phase, asking, preparing, sent, Running, Site
 use Rattle.raid_steps.specs.Programs.{running_of}
 use Rattle.raid_steps.specs.Monitor.{hear_monitor}
 use Rattle.raid_steps.specs.Site.{hear_site}
-use Rattle.raid_steps.specs.World.{World, hear, hear_at, session_of, link, take_front, pick, run, open_world, first_letter, first_links, first_site}
+use Rattle.raid_steps.specs.World.{World, hear, hear_at, session_of, link, take_front, pick, run, open_world, first_letter, first_links}
 use Rattle.raid_sessions.proofs.Lists.{all_weaken, get_below, get_set}
 use Rattle.raid_sessions.proofs.Mail.{moved}
 use Rattle.raid_sessions.proofs.Reached.{server_below}

@@ -1,5 +1,5 @@
 -- Each step of a site keeps the parts of writes those of the writes that are to be committed.
-use Rattle.std.proofs.Common.{◌≡◌, ◌≢◌, ◌⊎◌, inl, inr, ℕ, ℤ, zero, suc, ◌+◌, ◌-◌, ◌<◌, ◌≤◌, ◌==◌, Bool, true, false, List, [], ◌∷◌, ◌++◌, Option, Some, None, if◌then◌else◌, arith, sym, subst, ap, ◌∙◌, refl}
+use Rattle.std.proofs.Common.{◌≡◌, ◌≢◌, ◌⊎◌, inl, inr, ℕ, ℤ, zero, suc, ◌+◌, ◌-◌, ◌<◌, ◌==◌, Bool, true, false, List, [], ◌∷◌, ◌++◌, Option, Some, None, if◌then◌else◌, arith, sym, subst, ap, ◌∙◌, refl}
 use Rattle.std.specs.Prelude.{⊤, slice_get, slice_set}
 use Rattle.std.specs.List.{AllByRecursion}
 use Rattle.std.proofs.lemmas.Bool.{eqb-true, true≢false}
@@ -7,8 +7,6 @@ use Rattle.raid_base.specs.declared.names.Txn.{Txn}
 use Rattle.raid_base.specs.declared.names.Item.{Item}
 use Rattle.raid_base.specs.declared.names.Site.{Site}
 use Rattle.raid_base.specs.declared.request.Request.{Request}
-use Rattle.raid_base.specs.declared.entry.Entry.{Entry}
-use Rattle.raid_base.specs.declared.entry.Entry.TheVariants.{Commit}
 use Rattle.raid_base.specs.declared.entry.Noted.{Noted}
 use Rattle.raid_base.specs.Names.{is_txn, is_site}
 use Rattle.raid_base.specs.Sites.{site}
@@ -30,21 +28,20 @@ use Rattle.raid_sessions.proofs.Lists.{all_weaken, get_below, get_set, get_other
 use Rattle.raid_sessions.proofs.Mail.{same_or_not, letters_to, letter_of, moved, moved_sent, moved_other}
 use Rattle.raid_sessions.proofs.Reached.{server_below, from_below}
 use Rattle.raid_sessions.proofs.Site.{hears_server}
-use Rattle.raid_moves.specs.Moves.{Hears, Tells, Says, Given, read_here, read_elsewhere}
-use Rattle.raid_moves.proofs.Places.{program_of, all_found, found_txn}
+use Rattle.raid_moves.specs.Moves.{Hears, Says, Given, read_here, read_elsewhere}
+use Rattle.raid_moves.proofs.Places.{all_found, found_txn}
 use Rattle.raid_moves.proofs.Steps.{site_moves}
 use Rattle.raid_asks.specs.Way.{begins_of, begun_by}
-use Rattle.raid_asks.specs.Own.{IsOf}
 use Rattle.raid_asks.proofs.Facts.{or_left, or_right}
 use Rattle.raid_asks.proofs.Least.{Ours}
-use Rattle.raid_asks.proofs.Line.{Line, Due, line_due}
+use Rattle.raid_asks.proofs.Line.{Due, line_due}
 use Rattle.raid_asks.proofs.Programs.{told}
 use Rattle.raid_asks.proofs.Waits.{Waits}
 use Rattle.raid_letters.specs.Says.{NoteSays, AskSays, PeerSays}
 use Rattle.raid_letters.proofs.Runs.{LetterSays, QueueSays}
 use Rattle.raid_layers.specs.Asks.{ask_of, asks_of, has_waited, Outstanding, IsAbout, Talks}
 use Rattle.raid_layers.specs.Asks as talks
-use Rattle.raid_layers.proofs.Histories.{HasWait, wait_waited}
+use Rattle.raid_layers.proofs.Histories.{wait_waited}
 use Rattle.raid_layers.proofs.SiteWorlds.{line, heard_late}
 use Rattle.raid_layers.proofs.Tokens.{step_all}
 use Rattle.raid_layers.proofs.Worlds as layers

@@ -1,5 +1,5 @@
 -- Each step of the monitor and of the sequencer keeps the parts of writes those of the writes that are to be committed.
-use Rattle.std.proofs.Common.{◌≡◌, ◌≢◌, ◌⊎◌, inl, inr, ℕ, ℤ, zero, suc, ◌+◌, ◌-◌, ◌<◌, ◌≤◌, ◌==◌, Bool, true, false, not, ◌&&◌, List, [], ◌∷◌, ◌++◌, Option, Some, None, arith, sym, subst, ap, ◌∙◌, refl}
+use Rattle.std.proofs.Common.{◌≡◌, ◌≢◌, ◌⊎◌, inl, inr, ℕ, ℤ, zero, suc, ◌+◌, ◌-◌, Bool, true, false, not, List, [], ◌∷◌, ◌++◌, Option, Some, None, arith, sym, subst, ap, ◌∙◌, refl}
 use Rattle.std.specs.Prelude.{⊤, slice_get}
 use Rattle.std.specs.List.{AllByRecursion, list_any}
 use Rattle.std.proofs.lemmas.Bool.{and_parts, true≢false}
@@ -7,14 +7,13 @@ use Rattle.raid_base.specs.declared.names.Txn.{Txn}
 use Rattle.raid_base.specs.declared.names.Item.{Item}
 use Rattle.raid_base.specs.declared.names.Site.{Site}
 use Rattle.raid_base.specs.declared.request.Request.{Request}
-use Rattle.raid_base.specs.declared.entry.Entry.{Entry}
 use Rattle.raid_base.specs.declared.entry.Entry.TheVariants.{Read, Wait, Commit}
 use Rattle.raid_base.specs.declared.entry.Noted.{Noted}
-use Rattle.raid_base.specs.Names.{is_txn, is_site}
+use Rattle.raid_base.specs.Names.{is_txn}
 use Rattle.raid_base.specs.Sites.{site}
 use Rattle.raid_workload.specs.declared.workload.Workload.{Workload}
 use Rattle.raid_rules.specs.Entries.{is_begin_of, is_end_of}
-use Rattle.raid_rules.specs.History.{noted, add, next, has_begun, has_ended, is_running}
+use Rattle.raid_rules.specs.History.{noted, add, next, has_begun, has_ended}
 use Rattle.raid_rules.specs.Sessions.{last_session}
 use Rattle.raid_rules.proofs.Push.{noted_push}
 use Rattle.raid_message.specs.declared.letter.Message.TheVariants as letters
@@ -118,10 +117,13 @@ module _ (w : Workload) where
         grows test c = subst (λ z. list_any test z ≡ true) (sym (noted_push a.state.history e)) (any_kept test (so_far a) (next (so_far a) e) c)
 
         earlier : Source (so_far (place w ask a e)) t r → Source (so_far a) t r
-        earlier (alive, source) = (not_yet (so_far a) (so_far (place w ask a e)) grows (λ n. is_end_of t n.entry) alive, elim source [
-          | inl wait ↦ inl (no_wait w from letter (so_far a) e y t r (subst (λ z. HasWait z t r) (noted_push a.state.history e) wait))
-          | inr now ↦ inr now
-        ])
+        earlier (alive, source) = (
+          not_yet (so_far a) (so_far (place w ask a e)) grows (λ n. is_end_of t n.entry) alive,
+          elim source [
+            | inl wait ↦ inl (no_wait w from letter (so_far a) e y t r (subst (λ z. HasWait z t r) (noted_push a.state.history e) wait))
+            | inr now ↦ inr now
+          ],
+        )
     chain_commits a b (chains.sends {next = next} outs same is other rest) t r h =
         elim (chain_commits next b rest t r h) [ inl old ↦ inl (subst (λ z. HasCommit (noted z) t r) same old) | inr source ↦ inr (subst (λ z. Source (noted z) t r) same source) ]
 

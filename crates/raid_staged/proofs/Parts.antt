@@ -1,19 +1,16 @@
 -- A step of a site keeps the parts of its transactions' writes those of the writes that are to be committed.
-use Rattle.std.proofs.Common.{◌≡◌, ◌≢◌, ◌⊎◌, inl, inr, ℕ, ℤ, zero, suc, ◌+◌, ◌-◌, ◌<◌, ◌≤◌, ◌==◌, Bool, true, false, not, ◌&&◌, ◌||◌, List, [], ◌∷◌, ◌++◌, map, filter, length, Option, Some, None, if◌then◌else◌, arith, sym, subst, ap, ◌∙◌, refl, append-nil, append_assoc}
-use Rattle.std.specs.Prelude.{⊤, slice_get}
+use Rattle.std.proofs.Common.{◌≡◌, ◌⊎◌, inl, inr, ℕ, ℤ, ◌+◌, ◌-◌, ◌==◌, Bool, true, false, not, List, [], ◌∷◌, ◌++◌, map, filter, Option, Some, None, if◌then◌else◌, arith, sym, subst, ap, ◌∙◌, refl, append-nil, append_assoc}
+use Rattle.std.specs.Prelude.{⊤}
 use Rattle.std.specs.List.{AllByRecursion}
-use Rattle.std.proofs.lemmas.Bool.{and_parts, eqb-true, true≢false}
+use Rattle.std.proofs.lemmas.Bool.{eqb-true, true≢false}
 use Rattle.raid_base.specs.declared.names.Txn.{Txn}
 use Rattle.raid_base.specs.declared.names.Item.{Item}
 use Rattle.raid_base.specs.declared.names.Site.{Site}
 use Rattle.raid_base.specs.declared.request.Request.{Request}
 use Rattle.raid_base.specs.declared.entry.Answer.TheVariants.{Yes, No}
-use Rattle.raid_base.specs.declared.entry.Entry.{Entry}
-use Rattle.raid_base.specs.declared.entry.Entry.TheVariants.{Commit}
 use Rattle.raid_base.specs.declared.entry.Noted.{Noted}
-use Rattle.raid_base.specs.Names.{is_txn, is_site}
+use Rattle.raid_base.specs.Names.{is_txn}
 use Rattle.raid_base.specs.Sites.{site}
-use Rattle.raid_program.specs.declared.program.Want.{Want}
 use Rattle.raid_program.specs.declared.program.Want.TheVariants as wants
 use Rattle.raid_program.specs.Run.{put}
 use Rattle.raid_workload.specs.declared.workload.Workload.{Workload}
@@ -26,14 +23,11 @@ use Rattle.raid_steps.specs.State.{Out, Turn, opened, tell, Phase, asking, prepa
 use Rattle.raid_steps.specs.Copies.{stage, unstage}
 use Rattle.raid_steps.specs.Programs as programs
 use Rattle.raid_steps.specs.Programs.{held_by, put_running, running_of, prepare_out, voters}
-use Rattle.raid_steps.specs.Site as rows
-use Rattle.raid_steps.specs.World.{link}
-use Rattle.raid_sessions.proofs.Lists.{all_append, all_weaken, same_self}
+use Rattle.raid_sessions.proofs.Lists.{all_append, same_self}
 use Rattle.raid_moves.specs.Moves as parts
 use Rattle.raid_moves.specs.Moves.{Ascend, Hears, Tells, Says, Given, comes_to, Goes, fresh, Begins, Row, Starts, next_of, passed, Move, Moves}
 use Rattle.raid_moves.proofs.Places.{program_of, nothing, put_found, put_other, all_kept}
 use Rattle.raid_layers.proofs.AtSite.{Extends, goes_extends, moves_extend}
-use Rattle.raid_layers.proofs.Tokens.{OnLinks}
 use Rattle.raid_layers.proofs.Turns.{filtered_out, filtered_other}
 use Rattle.raid_staged.specs.Agree.{writes_at, writes_of, first_writes, IsPartOf, AsksPart}
 
