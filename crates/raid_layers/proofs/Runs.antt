@@ -29,12 +29,12 @@ use Rattle.raid_layers.specs.Asks.{asks_of, no_ask, AskOneThing}
 use Rattle.raid_layers.proofs.SiteWorlds.{site_talks}
 use Rattle.raid_layers.proofs.Worlds.{TalksAt, TalkAll, Landed, monitor_talks, sequencer_talks}
 
-empty_at : (n k : ℕ) → slice_index_or (replicate {A = List Letter} n []) k [] ≡ []
+pub empty_at : (n k : ℕ) → slice_index_or (replicate {A = List Letter} n []) k [] ≡ []
 empty_at zero k = refl
 empty_at (suc n) zero = refl
 empty_at (suc n) (suc k) = empty_at n k
 
-nobody : (xs : List SiteState) (k : ℕ) → slice_get xs k ≡ None → k < length xs → ⊥
+pub nobody : (xs : List SiteState) (k : ℕ) → slice_get xs k ≡ None → k < length xs → ⊥
 nobody [] k q below = omega (arith, below)
 nobody (x ∷ xs) zero q below = cc q
 nobody (x ∷ xs) (suc k) q below = nobody xs k q (omega (arith, below))

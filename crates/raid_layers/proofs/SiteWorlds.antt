@@ -44,7 +44,7 @@ use Rattle.raid_layers.proofs.Tokens.{TokenAt, tokens_step, none_of, falls_rest,
 use Rattle.raid_layers.proofs.Turns.{asked_by, asked_sent, asked_now, IsKnown, Now}
 use Rattle.raid_layers.proofs.Worlds.{TalksAt, TalkAll, Landed, moves_only}
 
-none_there : (rs : List Running) (t : Txn) (r : Running) → rs ≡ [] → program_of t rs ≡ Some r → ⊥
+pub none_there : (rs : List Running) (t : Txn) (r : Running) → rs ≡ [] → program_of t rs ≡ Some r → ⊥
 none_there rs t r e f = nothing (sym (ap (program_of t) e) ∙ f)
 
 -- what a site's step may be to its programs: nothing happens; it stops; it comes up in its next session; or it hears another server

@@ -60,7 +60,7 @@ module _ (w : Workload) where
         AllParts w (noted (hear_at w state.servers k from l o).0.sequencer.history) (hear_at w state.servers k from l o).0.sites
         (moved state.links (suc (suc k)) from (session_of (hear_at w state.servers k from l o).0 (suc (suc k))) clock rest (hear_at w state.servers k from l o).1)
     at_site k front None none cares =
-        absurd (staged.nobody state.servers.sites k none (let inside = server_below (w.sites + 2) state.links (suc (suc k)) from l rest landed.says.reached.square front in let long = landed.says.reached.long in omega (arith, inside, long)))
+        absurd (layers.nobody state.servers.sites k none (let inside = server_below (w.sites + 2) state.links (suc (suc k)) from l rest landed.says.reached.square front in let long = landed.says.reached.long in omega (arith, inside, long)))
     at_site k front (Some own) at cares =
         let turn = hear_site w own from l in
         let same = ap (λ (o : Option SiteState). option_map_or (λ (s : SiteState). s.session) o 0) (get_set state.servers.sites k turn.state (get_below state.servers.sites k own at)) in
@@ -102,12 +102,7 @@ module _ (w : Workload) where
   }
 
   none_asked : (k : ℕ) (t : Txn) (r : Request) → HasAskOn (link (open_world w).links 1 (k + 2)) t r → ⊥
-  none_asked k t r h = subst (λ ls. HasAskOn ls t r) (empty_at (w.sites + 2) (k + 2)) h
-    where
-      empty_at : (n k : ℕ) → slice_index_or (replicate {A = List Letter} n []) k [] ≡ []
-      empty_at zero k = refl
-      empty_at (suc n) zero = refl
-      empty_at (suc n) (suc k) = empty_at n k
+  none_asked k t r h = subst (λ ls. HasAskOn ls t r) (layers.empty_at (w.sites + 2) (k + 2)) h
 
   first_told : (t : Txn) (o : Option (List (Item × ℤ))) → Told w [] (open_world w).links t o → has_begun [] t ≡ false → o ≡ first_writes w t
   first_told t o (unbegun new is) q = is

@@ -47,7 +47,7 @@ use Rattle.raid_layers.proofs.Tokens.{step_all}
 use Rattle.raid_layers.proofs.Worlds as layers
 use Rattle.raid_layers.proofs.Worlds.{TalkAll}
 use Rattle.raid_staged.specs.Agree.{first_writes, IsPartOf, AsksPart}
-use Rattle.raid_staged.proofs.Parts.{HasAsk, IsFresh, AreFresh, none_asked, OpenNow, step_now}
+use Rattle.raid_staged.proofs.Parts.{HasAsk, all_last, IsFresh, AreFresh, none_asked, OpenNow, step_now}
 use Rattle.raid_staged.proofs.Parts as parts
 use Rattle.raid_staged.proofs.PartWorlds.{HasAskOn, HasCommit, LinkPart, PartsIn, Told, unbegun, asked, waits, committed, OpenParts, AllParts, opens}
 use Rattle.raid_staged.proofs.SiteWorlds.{monitor_sent}
@@ -71,11 +71,7 @@ no_commit (l ∷ ls) t r a (inl is) = first (is_txn t t) (same_self t.0) (subst 
     first : (b : Bool) → b ≡ true → AllByRecursion NoCommit ((if b then letters.CommitAsk t r ∷ [] else []) ++ asks_of t ls) → ⊥
     first true q h = h.0
     first false q h = true≢false (sym q)
-no_commit (l ∷ ls) t r a (inr more) = no_commit ls t r (later (ask_of t l.message) (asks_of t ls) a) more
-  where
-    later : (xs ys : List Message) → AllByRecursion NoCommit (xs ++ ys) → AllByRecursion NoCommit ys
-    later [] ys h = h
-    later (x ∷ xs) ys h = later xs ys h.1
+no_commit (l ∷ ls) t r a (inr more) = no_commit ls t r (all_last NoCommit (ask_of t l.message) (asks_of t ls) a) more
 
 ask_split : (xs ys : List Letter) (t : Txn) (r : Request) → HasAskOn (xs ++ ys) t r → HasAskOn xs t r ⊎ HasAskOn ys t r
 ask_split [] ys t r h = inr h
@@ -119,10 +115,6 @@ due_fresh w s p (out ∷ outs) a = go (out.0 == 1) refl a (due_fresh w s p outs)
 
 same_number : (k j : ℕ) (h : Site) → is_site (site (k + 1)) h ≡ true → is_site (site (j + 1)) h ≡ true → k ≡ j
 same_number k j h a b = (let x = eqb-true h.0 (k + 1) a in let y = eqb-true h.0 (j + 1) b in omega (arith, x, y))
-
-all_second : {X : Type 0} (P : X → Type 0) (xs ys : List X) → AllByRecursion P (xs ++ ys) → AllByRecursion P ys
-all_second P [] ys a = a
-all_second P (x ∷ xs) ys a = all_second P xs ys a.1
 
 -- the program hasn't sent its last ask
 abbrev IsOpen : Phase → Type 0
@@ -276,7 +268,7 @@ module _ (w : Workload) (state : World) (landed : Landed w state) (layer : layer
           let late = heard_late w state.servers state.links layer talk from clock letter rest known j own at front some in
           let follows = told_follows w state landed.says.reached j own at in
           let due = line_due w (site (j + 1)) p _ (line w state.servers state.links layer talk from clock letter rest known j own at front after_cares h.up some kept.0 kept.1 (omega (arith, to, late, follows))) in
-          due_fresh w (site (j + 1)) p turn.outs (all_second (Due w (site (j + 1)) p) (begins_of own.session (link state.links 1 (j + 2))) (told turn.outs) due)
+          due_fresh w (site (j + 1)) p turn.outs (all_last (Due w (site (j + 1)) p) (begins_of own.session (link state.links 1 (j + 2))) (told turn.outs) due)
 
   ends : parts.Now w p j own from letter Claimed Old turn
   ends =

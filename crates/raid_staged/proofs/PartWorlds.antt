@@ -31,10 +31,11 @@ use Rattle.raid_letters.proofs.Runs.{steps_on}
 use Rattle.raid_layers.proofs.Histories.{Grows, HasWait, any_kept}
 use Rattle.raid_layers.proofs.Opening.{IsAskedFor, IsLater, Chain, First, reads, waits as waits_first, nothing as nothing_first, Opens, hear_opens}
 use Rattle.raid_layers.proofs.Opening as chains
+use Rattle.raid_layers.proofs.SiteWorlds.{none_there}
 use Rattle.raid_layers.proofs.Tokens.{OnLinks, step_all}
 use Rattle.raid_staged.specs.Agree.{first_writes, IsPartOf, AsksPart}
 use Rattle.raid_staged.proofs.Applied.{no_wait, chain_waits}
-use Rattle.raid_staged.proofs.Worlds.{Landed, last_wait, none_there}
+use Rattle.raid_staged.proofs.Worlds.{Landed, last_wait}
 
 -- a letter asks for a commit of the transaction, with this request
 abbrev pub HasAskOn : List Letter → Txn → Request → Type 0

@@ -70,7 +70,7 @@ all_first : {X : Type 0} (P : X → Type 0) (xs ys : List X) → AllByRecursion 
 all_first P [] ys a = tt
 all_first P (x ∷ xs) ys a = (a.0, all_first P xs ys a.1)
 
-all_last : {X : Type 0} (P : X → Type 0) (xs ys : List X) → AllByRecursion P (xs ++ ys) → AllByRecursion P ys
+pub all_last : {X : Type 0} (P : X → Type 0) (xs ys : List X) → AllByRecursion P (xs ++ ys) → AllByRecursion P ys
 all_last P [] ys a = a
 all_last P (x ∷ xs) ys a = all_last P xs ys a.1
 

@@ -31,7 +31,7 @@ use Rattle.raid_steps.proofs.Parts.{number_known}
 use Rattle.raid_sessions.proofs.Holds.{last_of, IsHeard}
 use Rattle.raid_sessions.proofs.Lists.{all_weaken, get_below}
 use Rattle.raid_sessions.proofs.Mail.{moved}
-use Rattle.raid_moves.proofs.Places.{all_both, program_of, nothing}
+use Rattle.raid_moves.proofs.Places.{all_both}
 use Rattle.raid_asks.proofs.Cares.{Stage, stopped, asleep, awake}
 use Rattle.raid_asks.proofs.Cares as cares
 use Rattle.raid_asks.proofs.Waits.{Waits}
@@ -41,6 +41,7 @@ use Rattle.raid_letters.proofs.Runs.{LetterSays, QueueSays, WorldSays, steps_on}
 use Rattle.raid_letters.proofs.Waits.{WaitSays, all_noted}
 use Rattle.raid_layers.proofs.Histories.{Grows, HasWait, any_kept}
 use Rattle.raid_layers.proofs.Opening.{IsAskedFor, First, reads, waits, nothing as nothing_first, Opens, hear_opens}
+use Rattle.raid_layers.proofs.SiteWorlds.{none_there}
 use Rattle.raid_layers.proofs.Tokens.{OnLinks, step_all}
 use Rattle.raid_staged.specs.Staged.{IsStagedAt, AreStaged, VoteStaged, AskStaged, ApplyStaged, IsPrepared}
 use Rattle.raid_staged.proofs.Applied.{chain_fit, chain_waits}
@@ -62,9 +63,6 @@ last_wait [] n t r (inl is) = inr is
 last_wait [] n t r (inr more) = inl more
 last_wait (z ∷ ns) n t r (inl is) = inl (inl is)
 last_wait (z ∷ ns) n t r (inr more) = elim (last_wait ns n t r more) [ inl old ↦ inl (inr old) | inr now ↦ inr now ]
-
-pub none_there : (rs : List Running) (t : Txn) (r : Running) → rs ≡ [] → program_of t rs ≡ Some r → ⊥
-none_there rs t r e f = nothing (sym (ap (program_of t) e) ∙ f)
 
 module _ (w : Workload) where
   -- a letter of the sequencer to a server: what it applies is staged, where it is meant for a site that is up in its last session
