@@ -1,5 +1,5 @@
 -- What the sequencer sends to be applied is staged, where the request for it was made under sessions in which all was staged.
-use Rattle.std.proofs.Common.{◌≡◌, inl, inr, ℕ, ◌+◌, ◌≤◌, ◌==◌, Bool, true, false, not, ◌&&◌, ◌||◌, List, [], ◌∷◌, ◌++◌, length, map, filter, Some, None, if◌then◌else◌, arith, sym, subst, ap, ◌∙◌, refl}
+use Rattle.std.proofs.Common.{◌≡◌, ◌⊎◌, inl, inr, ℕ, ◌+◌, ◌≤◌, ◌==◌, Bool, true, false, not, ◌&&◌, ◌||◌, List, [], ◌∷◌, ◌++◌, length, map, filter, Some, None, if◌then◌else◌, arith, sym, subst, ap, ◌∙◌, refl}
 use Rattle.std.specs.Prelude.{⊤, flat_map, slice_get}
 use Rattle.std.specs.List.{AllByRecursion, list_any}
 use Rattle.std.proofs.lemmas.Bool.{and_parts, eqb-true, true≢false}
@@ -39,7 +39,7 @@ use Rattle.raid_asks.proofs.Steps.{IsOther, AreOther}
 use Rattle.raid_letters.specs.Says.{AreReached}
 use Rattle.raid_letters.proofs.Sends.{same_site}
 use Rattle.raid_layers.proofs.Histories.{Grows, HasWait, any_kept}
-use Rattle.raid_layers.proofs.Opening.{IsAskedFor, IsLater, Chain, done, places, sends}
+use Rattle.raid_layers.proofs.Opening.{First, reads, waits as waits_first, nothing as nothing_first, IsAskedFor, IsLater, Chain, done, places, sends}
 use Rattle.raid_staged.specs.Staged.{AreStaged, ApplyStaged}
 
 some_same : {X : Type 0} {x y : X} → Some x ≡ Some y → x ≡ y
@@ -54,6 +54,13 @@ none_passes f (r ∷ ss) s none here = go (f r) refl (is_site s r) refl none her
     go true q c r none here rest = absurd (true≢false none)
     go false q true same none here rest = subst (λ z. f z ≡ false) (same_site s r same) q
     go false q false other none here rest = rest none here
+
+-- with one more entry
+last_wait : (ns : List Noted) (n : Noted) (t : Txn) (r : Request) → HasWait (ns ++ n ∷ []) t r → HasWait ns t r ⊎ (n.entry ≡ Wait t r)
+last_wait [] n t r (inl is) = inr is
+last_wait [] n t r (inr more) = inl more
+last_wait (z ∷ ns) n t r (inl is) = inl (inl is)
+last_wait (z ∷ ns) n t r (inr more) = elim (last_wait ns n t r more) [ inl old ↦ inl (inr old) | inr now ↦ inr now ]
 
 module _ (w : Workload) where
   -- a commit that is granted is applied where its writes are held, in the sessions under which it was asked for
@@ -115,6 +122,25 @@ module _ (w : Workload) where
     chain_waits a b done t r h = h
     chain_waits a b (places ask e y rest) t r h = no_wait (so_far a) e y t r (subst (λ z. HasWait z t r) (noted_push a.state.history e) (chain_waits (place w ask a e) b rest t r h))
     chain_waits a b (sends {next = next} outs same is other rest) t r h = subst (λ z. HasWait (noted z) t r) same (chain_waits next b rest t r h)
+
+    -- the first part of a step: a Wait in it is of what is asked for
+    pub first_waits : {a b : Turn Sequencer} → First w from letter a b → (t : Txn) (r : Request) → HasWait (so_far b) t r → HasWait (so_far a) t r ⊎ IsAskedFor w from letter t r
+    first_waits {a = a} (reads k u ask x s of is) t r h =
+        elim (last_wait (so_far a) (next (so_far a) (Read u x s)) t r (subst (λ z. HasWait z t r) (noted_push a.state.history (Read u x s)) h)) [ inl old ↦ inl old | inr now ↦ absurd (cc now) ]
+    first_waits {a = a} (waits_first k u request of is) t r h =
+        elim (last_wait (so_far a) (next (so_far a) (Wait u request)) t r (subst (λ z. HasWait z t r) (noted_push a.state.history (Wait u request)) h)) [ inl old ↦ inl old | inr same ↦ inr (its same) ]
+      where
+        its : Wait u request ≡ Wait t r → IsAskedFor w from letter t r
+        its same =
+            let txns : u ≡ t = cc same in
+            let requests : request ≡ r = cc same in
+            (k, (of, is ∙ ap (λ z. letters.CommitAsk z request) txns ∙ ap (letters.CommitAsk t) requests))
+    first_waits nothing_first t r h = inl h
+
+    pub first_grows : {a b : Turn Sequencer} → First w from letter a b → Grows (so_far a) (so_far b)
+    first_grows {a = a} (reads k u ask x s of is) test c = subst (λ z. list_any test z ≡ true) (sym (noted_push a.state.history (Read u x s))) (any_kept test (so_far a) (next (so_far a) (Read u x s)) c)
+    first_grows {a = a} (waits_first k u request of is) test c = subst (λ z. list_any test z ≡ true) (sym (noted_push a.state.history (Wait u request))) (any_kept test (so_far a) (next (so_far a) (Wait u request)) c)
+    first_grows nothing_first test c = c
 
   module _ (from : ℕ) (letter : Letter) (p q : List Noted) (places_of : List SiteState) (inside : (j : ℕ) (s : SiteState) → slice_get places_of j ≡ Some s → knows_site w (site (j + 1)) ≡ true)
       (follows : (s : Site) → last_session p s ≤ last_session q s) where

@@ -34,8 +34,8 @@ use Rattle.raid_layers.proofs.Opening as chains
 use Rattle.raid_layers.proofs.SiteWorlds.{none_there}
 use Rattle.raid_layers.proofs.Tokens.{OnLinks, step_all}
 use Rattle.raid_staged.specs.Agree.{first_writes, IsPartOf, AsksPart}
-use Rattle.raid_staged.proofs.Applied.{no_wait, chain_waits}
-use Rattle.raid_staged.proofs.Worlds.{Landed, last_wait}
+use Rattle.raid_staged.proofs.Applied.{no_wait, chain_waits, first_waits, first_grows}
+use Rattle.raid_staged.proofs.Worlds.{Landed}
 
 -- a letter asks for a commit of the transaction, with this request
 abbrev pub HasAskOn : List Letter → Txn → Request → Type 0
@@ -136,24 +136,6 @@ module _ (w : Workload) where
         elim (last_commit (so_far a) (next (so_far a) (Wait u request)) t r (subst (λ z. HasCommit z t r) (noted_push a.state.history (Wait u request)) h)) [ inl old ↦ old | inr now ↦ absurd (let e = now.1 in cc e) ]
     first_commits nothing_first t r h = h
 
-    first_waits : {a b : Turn Sequencer} → First w from letter a b → (t : Txn) (r : Request) → HasWait (so_far b) t r → HasWait (so_far a) t r ⊎ IsAskedFor w from letter t r
-    first_waits {a = a} (reads k u ask x s of is) t r h =
-        elim (last_wait (so_far a) (next (so_far a) (Read u x s)) t r (subst (λ z. HasWait z t r) (noted_push a.state.history (Read u x s)) h)) [ inl old ↦ inl old | inr now ↦ absurd (cc now) ]
-    first_waits {a = a} (waits_first k u request of is) t r h =
-        elim (last_wait (so_far a) (next (so_far a) (Wait u request)) t r (subst (λ z. HasWait z t r) (noted_push a.state.history (Wait u request)) h)) [ inl old ↦ inl old | inr same ↦ inr (its same) ]
-      where
-        its : Wait u request ≡ Wait t r → IsAskedFor w from letter t r
-        its same =
-            let txns : u ≡ t = cc same in
-            let requests : request ≡ r = cc same in
-            (k, (of, is ∙ ap (λ z. letters.CommitAsk z request) txns ∙ ap (letters.CommitAsk t) requests))
-    first_waits nothing_first t r h = inl h
-
-    first_grows : {a b : Turn Sequencer} → First w from letter a b → Grows (so_far a) (so_far b)
-    first_grows {a = a} (reads k u ask x s of is) test c = subst (λ z. list_any test z ≡ true) (sym (noted_push a.state.history (Read u x s))) (any_kept test (so_far a) (next (so_far a) (Read u x s)) c)
-    first_grows {a = a} (waits_first k u request of is) test c = subst (λ z. list_any test z ≡ true) (sym (noted_push a.state.history (Wait u request))) (any_kept test (so_far a) (next (so_far a) (Wait u request)) c)
-    first_grows nothing_first test c = c
-
   module _ (state : World) (landed : Landed w state) (all : AllParts (noted state.servers.sequencer.history) state.servers.sites state.links) (from clock : ℕ) (letter : Letter) (rest : List Letter) where
     abbrev p : List Noted
     p = noted state.servers.sequencer.history
@@ -239,7 +221,7 @@ module _ (w : Workload) where
               alive_before t alive = not_yet p q later.any (λ n. is_end_of t n.entry) alive
 
               waited : (t : Txn) (r : Request) (o : Option Writes) → HasWait (so_far first) t r → has_ended p t ≡ false → o ≡ Some r.writes → Told p state.links t o
-              waited t r o h alive same = elim (first_waits from letter one t r h) [ inl old ↦ waits r old alive same | inr now ↦ from_letter t r o now alive same ]
+              waited t r o h alive same = elim (first_waits w from letter one t r h) [ inl old ↦ waits r old alive same | inr now ↦ from_letter t r o now alive same ]
 
               back : (t : Txn) (o : Option Writes) → Told q after t o → Told p state.links t o
               back t o (unbegun new is) = unbegun (not_yet p q later.any (λ n. is_begin_of t n.entry) new) is
@@ -248,7 +230,7 @@ module _ (w : Workload) where
               back t o (committed r h is) = elim (chain_commits from letter first now chain t r h) [
                 | inl old ↦ committed r (first_commits from letter one t r old) is
                 | inr source ↦ elim source.1 [
-                  | inl wait ↦ waited t r o wait (not_yet p (so_far first) (first_grows from letter one) (λ n. is_end_of t n.entry) source.0) is
-                  | inr asks ↦ from_letter t r o asks (not_yet p (so_far first) (first_grows from letter one) (λ n. is_end_of t n.entry) source.0) is
+                  | inl wait ↦ waited t r o wait (not_yet p (so_far first) (first_grows w from letter one) (λ n. is_end_of t n.entry) source.0) is
+                  | inr asks ↦ from_letter t r o asks (not_yet p (so_far first) (first_grows w from letter one) (λ n. is_end_of t n.entry) source.0) is
                 ]
               ]
