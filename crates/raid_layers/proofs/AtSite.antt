@@ -87,10 +87,10 @@ one_own message b q = ap (λ c. (if c then message ∷ [] else []) ++ []) q
 
 -- more is sent by each move
 module _ (w : Workload) where
-  abbrev Extends : Turn SiteState → Turn SiteState → Type 0
+  abbrev pub Extends : Turn SiteState → Turn SiteState → Type 0
   Extends a b = (outs : List Out) × (b.outs ≡ a.outs ++ outs)
 
-  goes_extends : (turn : Turn SiteState) (r : Running) {after : Turn SiteState} → Goes w turn r after → Extends turn after
+  pub goes_extends : (turn : Turn SiteState) (r : Running) {after : Turn SiteState} → Goes w turn r after → Extends turn after
   goes_extends turn r (parts.reads_next x e) = (_, refl)
   goes_extends turn r (parts.prepares e) = (_, refl)
   goes_extends turn r (parts.stops e) = (_, refl)
@@ -104,7 +104,7 @@ module _ (w : Workload) where
     move_extends {turn = turn} (parts.joins r told_reads writes awaited s n f p m y) = (_, refl)
     move_extends {turn = turn} (parts.commits r told_reads writes f p m) = (_, refl)
 
-    moves_extend : {turn last : Turn SiteState} → Moves w state from letter turn last → Extends turn last
+    pub moves_extend : {turn last : Turn SiteState} → Moves w state from letter turn last → Extends turn last
     moves_extend {turn = turn} parts.done = ([], sym (append-nil turn.outs))
     moves_extend {turn = turn} (parts.moves m rest) = (let a = move_extends m in let b = moves_extend rest in (a.0 ++ b.0, b.1 ∙ ap (λ outs. outs ++ b.0) a.1 ∙ append_assoc turn.outs a.0 b.0))
 

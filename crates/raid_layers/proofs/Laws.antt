@@ -25,10 +25,10 @@ got P (y ∷ xs) zero x a q = (let same : y ≡ x = cc q in subst P same a.0)
 got P (y ∷ xs) (suc k) x a q = got P xs k x a.1 q
 
 module _ (w : Workload) where
-  reads : Reads w
+  pub reads : Reads w
   reads t = gives_none (program w t)
 
-  gives : (schedule : List Pick) → Gives w (run w schedule).servers
+  pub gives : (schedule : List Pick) → Gives w (run w schedule).servers
   gives schedule k state at r ask x q v f is =
       let stands = all_found (Stands w state.site) (λ (z : Running). is_txn r.txn z.txn) state.running r (got (AreStanding w) (run w schedule).servers.sites k state (runs_stand w schedule) at) f in
       let wish : (made_of w r.txn r.answers).end ≡ wants.Read x = (subst (StandsIn w state.site r.txn r.answers r.asks) is stands.phase).0 in

@@ -29,12 +29,12 @@ use Rattle.raid_layers.specs.Asks.{asks_of, no_ask, AskOneThing}
 use Rattle.raid_layers.proofs.SiteWorlds.{site_talks}
 use Rattle.raid_layers.proofs.Worlds.{TalksAt, TalkAll, Landed, monitor_talks, sequencer_talks}
 
-empty_at : (n k : ℕ) → slice_index_or (replicate {A = List Letter} n []) k [] ≡ []
+pub empty_at : (n k : ℕ) → slice_index_or (replicate {A = List Letter} n []) k [] ≡ []
 empty_at zero k = refl
 empty_at (suc n) zero = refl
 empty_at (suc n) (suc k) = empty_at n k
 
-nobody : (xs : List SiteState) (k : ℕ) → slice_get xs k ≡ None → k < length xs → ⊥
+pub nobody : (xs : List SiteState) (k : ℕ) → slice_get xs k ≡ None → k < length xs → ⊥
 nobody [] k q below = omega (arith, below)
 nobody (x ∷ xs) zero q below = cc q
 nobody (x ∷ xs) (suc k) q below = nobody xs k q (omega (arith, below))
@@ -85,7 +85,7 @@ module _ (w : Workload) where
       talks k state at = subst (TalksAt w (noted (open_world w).servers.sequencer.history) (open_world w).links k) (first_state w 1 w.sites k state at) (λ up last t. inr (none k t))
 
   module _ (reads : Reads) (gives : (schedule : List Pick) → Gives (run w schedule).servers) where
-    landed : (schedule : List Pick) → Landed w (run w schedule).servers (run w schedule).links
+    pub landed : (schedule : List Pick) → Landed w (run w schedule).servers (run w schedule).links
     landed schedule = record {
       holds = reached w schedule;
       homes = (reached_all w schedule).1.0;

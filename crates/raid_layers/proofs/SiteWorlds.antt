@@ -44,7 +44,7 @@ use Rattle.raid_layers.proofs.Tokens.{TokenAt, tokens_step, none_of, falls_rest,
 use Rattle.raid_layers.proofs.Turns.{asked_by, asked_sent, asked_now, IsKnown, Now}
 use Rattle.raid_layers.proofs.Worlds.{TalksAt, TalkAll, Landed, moves_only}
 
-none_there : (rs : List Running) (t : Txn) (r : Running) → rs ≡ [] → program_of t rs ≡ Some r → ⊥
+pub none_there : (rs : List Running) (t : Txn) (r : Running) → rs ≡ [] → program_of t rs ≡ Some r → ⊥
 none_there rs t r e f = nothing (sym (ap (program_of t) e) ∙ f)
 
 -- what a site's step may be to its programs: nothing happens; it stops; it comes up in its next session; or it hears another server
@@ -139,7 +139,7 @@ module _ (w : Workload) (s : Servers) (links : List (List (List Letter))) (lande
       due u ask x z n tells a b c = (suc (suc j), subst (OfSequencer t k mm P (suc (suc j)) letter.to) tells.is (subst (λ f. HoldsOf t k mm P (suc (suc j)) f letter.to letter.message) tells.by fronted) a b c)
 
   -- what the site hears is of a session that the history has
-  heard_late : (from ≡ 0 → ⊥) → letter.to ≤ last_session p (site (j + 1))
+  pub heard_late : (from ≡ 0 → ⊥) → letter.to ≤ last_session (noted s.sequencer.history) (site (j + 1))
   heard_late some = go from refl
     where
       go : (f : ℕ) → from ≡ f → letter.to ≤ last_session p (site (j + 1))
@@ -191,7 +191,7 @@ module _ (w : Workload) (s : Servers) (links : List (List (List Letter))) (lande
               let its = subst (FineAt w (site (j + 1)) p bs) (found_txn t state.running r f) (all_found (λ (r : Running). FineAt w (site (j + 1)) p bs r.txn) (λ (r : Running). is_txn t r.txn) state.running r fine f) in
               either t (has_begun p t) (has_txn bs t) refl its.1 refl
 
-      line : Line w (site (j + 1)) p (bs ++ told turn.outs)
+      pub line : Line w (site (j + 1)) p (begins state.session (link links 1 (j + 2)) ++ told (hear_site w state from letter).outs)
       line = go (after_waits j turn.state (get_set s.sites j turn.state (get_below s.sites j state at))).stage
         where
           begins_is : begins turn.state.session (link after 1 (j + 2)) ≡ bs ++ told turn.outs

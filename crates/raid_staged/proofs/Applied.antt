@@ -1,5 +1,5 @@
 -- What the sequencer sends to be applied is staged, where the request for it was made under sessions in which all was staged.
-use Rattle.std.proofs.Common.{◌≡◌, inl, inr, ℕ, ◌+◌, ◌≤◌, ◌==◌, Bool, true, false, not, ◌&&◌, ◌||◌, List, [], ◌∷◌, ◌++◌, length, map, filter, Some, None, if◌then◌else◌, arith, sym, subst, ap, ◌∙◌, refl}
+use Rattle.std.proofs.Common.{◌≡◌, ◌⊎◌, inl, inr, ℕ, ◌+◌, ◌≤◌, ◌==◌, Bool, true, false, not, ◌&&◌, ◌||◌, List, [], ◌∷◌, ◌++◌, length, map, filter, Some, None, if◌then◌else◌, arith, sym, subst, ap, ◌∙◌, refl}
 use Rattle.std.specs.Prelude.{⊤, flat_map, slice_get}
 use Rattle.std.specs.List.{AllByRecursion, list_any}
 use Rattle.std.proofs.lemmas.Bool.{and_parts, eqb-true, true≢false}
@@ -39,7 +39,7 @@ use Rattle.raid_asks.proofs.Steps.{IsOther, AreOther}
 use Rattle.raid_letters.specs.Says.{AreReached}
 use Rattle.raid_letters.proofs.Sends.{same_site}
 use Rattle.raid_layers.proofs.Histories.{Grows, HasWait, any_kept}
-use Rattle.raid_layers.proofs.Opening.{IsAskedFor, IsLater, Chain, done, places, sends}
+use Rattle.raid_layers.proofs.Opening.{First, reads, waits as waits_first, nothing as nothing_first, IsAskedFor, IsLater, Chain, done, places, sends}
 use Rattle.raid_staged.specs.Staged.{AreStaged, ApplyStaged}
 
 some_same : {X : Type 0} {x y : X} → Some x ≡ Some y → x ≡ y
@@ -54,6 +54,13 @@ none_passes f (r ∷ ss) s none here = go (f r) refl (is_site s r) refl none her
     go true q c r none here rest = absurd (true≢false none)
     go false q true same none here rest = subst (λ z. f z ≡ false) (same_site s r same) q
     go false q false other none here rest = rest none here
+
+-- with one more entry
+last_wait : (ns : List Noted) (n : Noted) (t : Txn) (r : Request) → HasWait (ns ++ n ∷ []) t r → HasWait ns t r ⊎ (n.entry ≡ Wait t r)
+last_wait [] n t r (inl is) = inr is
+last_wait [] n t r (inr more) = inl more
+last_wait (z ∷ ns) n t r (inl is) = inl (inl is)
+last_wait (z ∷ ns) n t r (inr more) = elim (last_wait ns n t r more) [ inl old ↦ inl (inr old) | inr now ↦ inr now ]
 
 module _ (w : Workload) where
   -- a commit that is granted is applied where its writes are held, in the sessions under which it was asked for
@@ -94,6 +101,47 @@ module _ (w : Workload) where
       untrue true q = refl
       untrue false q = absurd (true≢false q)
 
+  module _ (from : ℕ) (letter : Letter) where
+    -- an entry that is no Wait leaves those that there are
+    pub no_wait : (r : List Noted) (e : Entry) → IsLater w from letter r e → (t : Txn) (request : Request) → HasWait (add r e) t request → HasWait r t request
+    no_wait r e y t request h = go r (next r e) refl h
+      where
+        not_wait : (e : Entry) → IsLater w from letter r e → e ≡ Wait t request → ⊥
+        not_wait (Wait u q) y is = y
+        not_wait (Read u x s) y is = cc is
+        not_wait other y is = cc is
+
+        go : (ns : List Noted) (n : Noted) → n.entry ≡ e → HasWait (ns ++ n ∷ []) t request → HasWait ns t request
+        go [] n same (inl is) = absurd (not_wait e y (sym same ∙ is))
+        go [] n same (inr more) = more
+        go (z ∷ ns) n same (inl is) = inl is
+        go (z ∷ ns) n same (inr more) = inr (go ns n same more)
+
+    -- nor do other entries
+    pub chain_waits : (a b : Turn Sequencer) → Chain w from letter a b → (t : Txn) (r : Request) → HasWait (so_far b) t r → HasWait (so_far a) t r
+    chain_waits a b done t r h = h
+    chain_waits a b (places ask e y rest) t r h = no_wait (so_far a) e y t r (subst (λ z. HasWait z t r) (noted_push a.state.history e) (chain_waits (place w ask a e) b rest t r h))
+    chain_waits a b (sends {next = next} outs same is other rest) t r h = subst (λ z. HasWait (noted z) t r) same (chain_waits next b rest t r h)
+
+    -- the first part of a step: a Wait in it is of what is asked for
+    pub first_waits : {a b : Turn Sequencer} → First w from letter a b → (t : Txn) (r : Request) → HasWait (so_far b) t r → HasWait (so_far a) t r ⊎ IsAskedFor w from letter t r
+    first_waits {a = a} (reads k u ask x s of is) t r h =
+        elim (last_wait (so_far a) (next (so_far a) (Read u x s)) t r (subst (λ z. HasWait z t r) (noted_push a.state.history (Read u x s)) h)) [ inl old ↦ inl old | inr now ↦ absurd (cc now) ]
+    first_waits {a = a} (waits_first k u request of is) t r h =
+        elim (last_wait (so_far a) (next (so_far a) (Wait u request)) t r (subst (λ z. HasWait z t r) (noted_push a.state.history (Wait u request)) h)) [ inl old ↦ inl old | inr same ↦ inr (its same) ]
+      where
+        its : Wait u request ≡ Wait t r → IsAskedFor w from letter t r
+        its same =
+            let txns : u ≡ t = cc same in
+            let requests : request ≡ r = cc same in
+            (k, (of, is ∙ ap (λ z. letters.CommitAsk z request) txns ∙ ap (letters.CommitAsk t) requests))
+    first_waits nothing_first t r h = inl h
+
+    pub first_grows : {a b : Turn Sequencer} → First w from letter a b → Grows (so_far a) (so_far b)
+    first_grows {a = a} (reads k u ask x s of is) test c = subst (λ z. list_any test z ≡ true) (sym (noted_push a.state.history (Read u x s))) (any_kept test (so_far a) (next (so_far a) (Read u x s)) c)
+    first_grows {a = a} (waits_first k u request of is) test c = subst (λ z. list_any test z ≡ true) (sym (noted_push a.state.history (Wait u request))) (any_kept test (so_far a) (next (so_far a) (Wait u request)) c)
+    first_grows nothing_first test c = c
+
   module _ (from : ℕ) (letter : Letter) (p q : List Noted) (places_of : List SiteState) (inside : (j : ℕ) (s : SiteState) → slice_get places_of j ≡ Some s → knows_site w (site (j + 1)) ≡ true)
       (follows : (s : Site) → last_session p s ≤ last_session q s) where
     -- what was asked for is staged
@@ -130,27 +178,6 @@ module _ (w : Workload) where
         go true q false = (each s q, tt)
         go false q true = (none_fit (s.0 + 1) (session (vector w r) s) (letters.Done t) tt, tt)
         go false q false = tt
-
-    -- an entry that is no Wait leaves those that there are
-    no_wait : (r : List Noted) (e : Entry) → IsLater w from letter r e → (t : Txn) (request : Request) → HasWait (add r e) t request → HasWait r t request
-    no_wait r e y t request h = go r (next r e) refl h
-      where
-        not_wait : (e : Entry) → IsLater w from letter r e → e ≡ Wait t request → ⊥
-        not_wait (Wait u q) y is = y
-        not_wait (Read u x s) y is = cc is
-        not_wait other y is = cc is
-
-        go : (ns : List Noted) (n : Noted) → n.entry ≡ e → HasWait (ns ++ n ∷ []) t request → HasWait ns t request
-        go [] n same (inl is) = absurd (not_wait e y (sym same ∙ is))
-        go [] n same (inr more) = more
-        go (z ∷ ns) n same (inl is) = inl is
-        go (z ∷ ns) n same (inr more) = inr (go ns n same more)
-
-    -- nor do other entries
-    pub chain_waits : (a b : Turn Sequencer) → Chain w from letter a b → (t : Txn) (r : Request) → HasWait (so_far b) t r → HasWait (so_far a) t r
-    chain_waits a b done t r h = h
-    chain_waits a b (places ask e y rest) t r h = no_wait (so_far a) e y t r (subst (λ z. HasWait z t r) (noted_push a.state.history e) (chain_waits (place w ask a e) b rest t r h))
-    chain_waits a b (sends {next = next} outs same is other rest) t r h = subst (λ z. HasWait (noted z) t r) same (chain_waits next b rest t r h)
 
     module _ (asked : (t : Txn) (r : Request) → IsAskedFor w from letter t r → IsGood t r) where
       entry_fit : (h : List Entry) (ask : ℕ) (e : Entry) → Grows p (noted h) → ((t : Txn) (r : Request) → HasWait (noted h) t r → IsGood t r) → IsLater w from letter (noted h) e → AreFit (rows.sends w (noted (h ++ e ∷ [])) ask e)
@@ -199,7 +226,7 @@ module _ (w : Workload) where
       chain_fit a b (places ask e y rest) grows waits fit =
           let now = so_far (place w ask a e) in
           chain_fit (place w ask a e) b rest (λ test h. subst (λ r. list_any test r ≡ true) (sym (noted_push a.state.history e)) (any_kept test (so_far a) (next (so_far a) e) (grows test h)))
-          (λ t r h. waits t r (no_wait (so_far a) e y t r (subst (λ z. HasWait z t r) (noted_push a.state.history e) h)))
+          (λ t r h. waits t r (no_wait from letter (so_far a) e y t r (subst (λ z. HasWait z t r) (noted_push a.state.history e) h)))
           (all_append (λ (out : Out). IsFit out.0 out.1 out.2) a.outs (rows.sends w (noted (a.state.history ++ e ∷ [])) ask e) fit (entry_fit a.state.history ask e grows waits y))
       chain_fit a b (sends {next = next} outs same is other rest) grows waits fit =
           chain_fit next b rest (subst (λ h. Grows p (noted h)) (sym same) grows) (subst (λ h. (t : Txn) (r : Request) → HasWait (noted h) t r → IsGood t r) (sym same) waits)

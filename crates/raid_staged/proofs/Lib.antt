@@ -1,6 +1,10 @@
 pub mod Applied
 pub mod Ends
 pub mod Kept
+pub mod PartRuns
+pub mod PartSites
+pub mod PartWorlds
+pub mod Parts
 pub mod Runs
 pub mod SiteWorlds
 pub mod Walk

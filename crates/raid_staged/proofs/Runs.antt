@@ -1,5 +1,5 @@
 -- In every run, what is to be applied is staged.
-use Rattle.std.proofs.Common.{◌≡◌, inl, inr, ℕ, zero, suc, ◌+◌, ◌<◌, ◌==◌, true, List, [], ◌∷◌, ◌++◌, length, map, replicate, Option, Some, None, arith, sym, subst, ap, refl, append-nil, append_assoc}
+use Rattle.std.proofs.Common.{◌≡◌, inl, inr, ℕ, zero, suc, ◌+◌, ◌==◌, true, List, [], ◌∷◌, ◌++◌, map, replicate, Option, Some, None, arith, sym, subst, ap, refl, append-nil, append_assoc}
 use Rattle.std.specs.Prelude.{max, slice_get, slice_set, slice_index, slice_index_or}
 use Rattle.std.specs.List.{AllByRecursion}
 use Rattle.std.specs.Option.{option_map_or}
@@ -29,14 +29,10 @@ use Rattle.raid_asks.proofs.Begins.{reached_all}
 use Rattle.raid_asks.proofs.Reached.{first_state}
 use Rattle.raid_letters.proofs.Runs.{all_at, all_empty, reaches}
 use Rattle.raid_layers.proofs.Histories.{HasWait}
+use Rattle.raid_layers.proofs.Runs.{nobody}
 use Rattle.raid_staged.specs.Staged.{AreStaged, VoteStaged, AskStaged, WaitStaged, ApplyStaged, IsPrepared, StagedFirst}
 use Rattle.raid_staged.proofs.SiteWorlds.{site_staged}
 use Rattle.raid_staged.proofs.Worlds.{LetterStaged, PreparedAt, AllStaged, Landed, monitor_staged, sequencer_staged}
-
-nobody : (xs : List SiteState) (k : ℕ) → slice_get xs k ≡ None → k < length xs → ⊥
-nobody [] k q below = omega (arith, below)
-nobody (x ∷ xs) zero q below = cc q
-nobody (x ∷ xs) (suc k) q below = nobody xs k q (omega (arith, below))
 
 module _ (w : Workload) where
   abbrev At : World → Type 0
@@ -92,7 +88,7 @@ module _ (w : Workload) where
     prepared = λ k s at. subst (PreparedAt w [] (open_world w).servers.sites k) (first_state w 1 w.sites k s at) (λ up last t r f. absurd (nothing f));
   }
 
-  landed : (schedule : List Pick) → Landed w (run w schedule)
+  pub landed : (schedule : List Pick) → Landed w (run w schedule)
   landed schedule = record { says = reaches w schedule; cares = (reached_all w schedule).1.1 }
 
   step : (schedule : List Pick) (p : Pick) → At (run w schedule) → At (run w (schedule ++ p ∷ []))

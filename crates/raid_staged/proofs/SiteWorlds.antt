@@ -42,7 +42,7 @@ use Rattle.raid_staged.proofs.Walk.{Now, SentOk, step_now}
 use Rattle.raid_staged.proofs.Worlds.{all_given, FitsAt, LetterStaged, PreparedAt, AllStaged, Landed, known_place, before}
 
 -- what a site sends where the monitor is heard
-monitor_sent : (P : Message → Type 0) → P letters.Halted → P letters.Hello → (w : Workload) (state : SiteState) (from : ℕ) (letter : Letter) → from ≡ 0 → AllByRecursion (λ (out : Out). P out.2) (hear_site w state from letter).outs
+pub monitor_sent : (P : Message → Type 0) → P letters.Halted → P letters.Hello → (w : Workload) (state : SiteState) (from : ℕ) (letter : Letter) → from ≡ 0 → AllByRecursion (λ (out : Out). P out.2) (hear_site w state from letter).outs
 monitor_sent P halted hello w state from letter of = subst (λ f. AllByRecursion (λ (out : Out). P out.2) (hear_site w state f letter).outs) (sym of) (go state.up)
   where
     stops : (message : Message) → AllByRecursion (λ (out : Out). P out.2) (rows.stop w state message).outs

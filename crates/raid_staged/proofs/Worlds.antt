@@ -1,23 +1,22 @@
 -- Each step of the monitor and of the sequencer keeps what is staged before it is to be applied.
-use Rattle.std.proofs.Common.{◌≡◌, ◌⊎◌, inl, inr, ℕ, ℤ, zero, suc, ◌+◌, ◌-◌, ◌≤◌, ◌==◌, Bool, true, false, List, [], ◌∷◌, ◌++◌, Some, if◌then◌else◌, arith, sym, subst, ap, ◌∙◌, refl}
+use Rattle.std.proofs.Common.{◌≡◌, inl, inr, ℕ, ℤ, zero, suc, ◌+◌, ◌-◌, ◌≤◌, ◌==◌, Bool, true, false, List, [], ◌∷◌, ◌++◌, Some, if◌then◌else◌, arith, sym, subst, ap, ◌∙◌, refl, append-nil}
 use Rattle.std.specs.Prelude.{⊤, slice_get}
-use Rattle.std.specs.List.{AllByRecursion, list_any}
+use Rattle.std.specs.List.{AllByRecursion}
 use Rattle.std.proofs.lemmas.Bool.{eqb-true}
 use Rattle.raid_base.specs.declared.names.Txn.{Txn}
 use Rattle.raid_base.specs.declared.names.Item.{Item}
 use Rattle.raid_base.specs.declared.names.Site.{Site}
 use Rattle.raid_base.specs.declared.request.Request.{Request}
 use Rattle.raid_base.specs.declared.entry.Answer.TheVariants.{Yes}
-use Rattle.raid_base.specs.declared.entry.Entry.TheVariants.{Read, Wait}
+use Rattle.raid_base.specs.declared.entry.Entry.TheVariants.{Read}
 use Rattle.raid_base.specs.declared.entry.Noted.{Noted}
 use Rattle.raid_base.specs.Names.{is_site}
 use Rattle.raid_base.specs.Sites.{session, site}
 use Rattle.raid_workload.specs.declared.workload.Workload.{Workload}
 use Rattle.raid_workload.specs.Parts.{home}
 use Rattle.raid_rules.specs.Entries.{is_end_of}
-use Rattle.raid_rules.specs.History.{noted, next}
+use Rattle.raid_rules.specs.History.{noted}
 use Rattle.raid_rules.specs.Sessions.{last_session}
-use Rattle.raid_rules.proofs.Push.{noted_push}
 use Rattle.raid_legal.specs.Seen.{vector}
 use Rattle.raid_message.specs.declared.letter.Message.{Message}
 use Rattle.raid_message.specs.declared.letter.Message.TheVariants as letters
@@ -25,13 +24,13 @@ use Rattle.raid_message.specs.declared.letter.Letter.{Letter}
 use Rattle.raid_steps.specs.Fits.{knows_site}
 use Rattle.raid_steps.specs.State.{Out, Turn, opened, Phase, asking, preparing, sent, Running, Sequencer, SiteState, to_site}
 use Rattle.raid_steps.specs.Programs.{running_of}
-use Rattle.raid_steps.specs.Sequencer.{so_far, hear_sequencer}
+use Rattle.raid_steps.specs.Sequencer.{so_far, read_sends, hear_sequencer}
 use Rattle.raid_steps.specs.World.{World, link}
 use Rattle.raid_steps.proofs.Parts.{number_known}
 use Rattle.raid_sessions.proofs.Holds.{last_of, IsHeard}
-use Rattle.raid_sessions.proofs.Lists.{all_weaken, get_below}
+use Rattle.raid_sessions.proofs.Lists.{all_append, all_weaken, get_below}
 use Rattle.raid_sessions.proofs.Mail.{moved}
-use Rattle.raid_moves.proofs.Places.{all_both, program_of, nothing}
+use Rattle.raid_moves.proofs.Places.{all_both}
 use Rattle.raid_asks.proofs.Cares.{Stage, stopped, asleep, awake}
 use Rattle.raid_asks.proofs.Cares as cares
 use Rattle.raid_asks.proofs.Waits.{Waits}
@@ -39,11 +38,12 @@ use Rattle.raid_letters.specs.Says.{AreReached, AskSays, PeerSays}
 use Rattle.raid_letters.proofs.Later.{Later}
 use Rattle.raid_letters.proofs.Runs.{LetterSays, QueueSays, WorldSays, steps_on}
 use Rattle.raid_letters.proofs.Waits.{WaitSays, all_noted}
-use Rattle.raid_layers.proofs.Histories.{Grows, HasWait, any_kept}
+use Rattle.raid_layers.proofs.Histories.{HasWait}
 use Rattle.raid_layers.proofs.Opening.{IsAskedFor, First, reads, waits, nothing as nothing_first, Opens, hear_opens}
+use Rattle.raid_layers.proofs.SiteWorlds.{none_there}
 use Rattle.raid_layers.proofs.Tokens.{OnLinks, step_all}
 use Rattle.raid_staged.specs.Staged.{IsStagedAt, AreStaged, VoteStaged, AskStaged, ApplyStaged, IsPrepared}
-use Rattle.raid_staged.proofs.Applied.{chain_fit, chain_waits}
+use Rattle.raid_staged.proofs.Applied.{chain_fit, chain_waits, first_waits, first_grows}
 
 -- what holds of each element for each of some things
 pub all_given : {X A : Type 0} (P : A → X → Type 0) (xs : List X) → ((a : A) → AllByRecursion (P a) xs) → AllByRecursion (λ x. (a : A) → P a x) xs
@@ -55,16 +55,6 @@ wait_says : (w : Workload) (p ns : List Noted) (t : Txn) (r : Request) → AllBy
 wait_says w p [] t r a h = absurd h
 wait_says w p (n ∷ ns) t r a (inl is) = subst (WaitSays w p) is a.0
 wait_says w p (n ∷ ns) t r a (inr more) = wait_says w p ns t r a.1 more
-
--- with one more entry
-last_wait : (ns : List Noted) (n : Noted) (t : Txn) (r : Request) → HasWait (ns ++ n ∷ []) t r → HasWait ns t r ⊎ (n.entry ≡ Wait t r)
-last_wait [] n t r (inl is) = inr is
-last_wait [] n t r (inr more) = inl more
-last_wait (z ∷ ns) n t r (inl is) = inl (inl is)
-last_wait (z ∷ ns) n t r (inr more) = elim (last_wait ns n t r more) [ inl old ↦ inl (inr old) | inr now ↦ inr now ]
-
-none_there : (rs : List Running) (t : Txn) (r : Running) → rs ≡ [] → program_of t rs ≡ Some r → ⊥
-none_there rs t r e f = nothing (sym (ap (program_of t) e) ∙ f)
 
 module _ (w : Workload) where
   -- a letter of the sequencer to a server: what it applies is staged, where it is meant for a site that is up in its last session
@@ -194,44 +184,27 @@ module _ (w : Workload) where
       waited : (t : Txn) (r : Request) → HasWait p t r → IsGood t r
       waited t r h = (all.waits t r h, wait_says w p p t r (all_noted w (WaitSays w p) [] state.servers.sequencer.history tt landed.says.waits) h)
 
-      -- the first part
-      record Starts (a : Turn Sequencer) : Type 0 where
-        grows : Grows p (so_far a)
-        good : (t : Txn) (r : Request) → HasWait (so_far a) t r → IsGood t r
-        fit : AllByRecursion (λ (out : Out). FitsAt q sites out.0 out.1 out.2) a.outs
-
-      starts : {a : Turn Sequencer} → First w from letter (opened state.servers.sequencer) a → Starts a
-      starts (reads k t ask x s of is) = record {
-        grows = λ test h. subst (λ r. list_any test r ≡ true) (sym (noted_push state.servers.sequencer.history (Read t x s))) (any_kept test p (next p (Read t x s)) h);
-        good = λ u r h. elim (last_wait p (next p (Read t x s)) u r (subst (λ z. HasWait z u r) (noted_push state.servers.sequencer.history (Read t x s)) h)) [ inl old ↦ waited u r old | inr other ↦ absurd (cc other) ];
-        fit = ((λ j z at up is fits last. tt), serving (vector w (noted (state.servers.sequencer.history ++ Read t x s ∷ []))) (is_site s (home w t)));
-      }
+      -- the first part applies nothing
+      first_fit : {a b : Turn Sequencer} → First w from letter a b → AllByRecursion (λ (out : Out). FitsAt q sites out.0 out.1 out.2) a.outs → AllByRecursion (λ (out : Out). FitsAt q sites out.0 out.1 out.2) b.outs
+      first_fit {a = a} (reads k t ask x s of is) fit =
+          all_append (λ (out : Out). FitsAt q sites out.0 out.1 out.2) a.outs (read_sends w (noted (a.state.history ++ Read t x s ∷ [])) ask t x s) fit
+          ((λ j z at up is fits last. tt), serving (vector w (noted (a.state.history ++ Read t x s ∷ []))) (is_site s (home w t)))
         where
           serving : (v : List ℕ) (b : Bool) → AllByRecursion (λ (out : Out). FitsAt q sites out.0 out.1 out.2) (if b then [] else to_site v (home w t) (letters.Serving t ask s) ∷ [])
           serving v true = tt
           serving v false = ((λ j z at up is fits last. tt), tt)
-      starts (waits k t request of is) = record {
-        grows = λ test h. subst (λ r. list_any test r ≡ true) (sym (noted_push state.servers.sequencer.history (Wait t request))) (any_kept test p (next p (Wait t request)) h);
-        good = λ u r h. elim (last_wait p (next p (Wait t request)) u r (subst (λ z. HasWait z u r) (noted_push state.servers.sequencer.history (Wait t request)) h)) [ inl old ↦ waited u r old | inr same ↦ its u r same ];
-        fit = tt;
-      }
-        where
-          its : (u : Txn) (r : Request) → Wait t request ≡ Wait u r → IsGood u r
-          its u r same =
-              let txns : t ≡ u = cc same in
-              let requests : request ≡ r = cc same in
-              subst (λ z. IsGood z r) txns (subst (IsGood t) requests (asked t request (k, (of, is))))
-      starts nothing_first = record { grows = λ test h. h; good = waited; fit = tt }
+      first_fit {a = a} (waits k t request of is) fit = subst (AllByRecursion (λ (out : Out). FitsAt q sites out.0 out.1 out.2)) (sym (append-nil a.outs)) fit
+      first_fit nothing_first fit = fit
 
       pub sequencer_staged : AllStaged (noted (hear_sequencer w state.servers.sequencer from letter).state.history) state.servers.sites (moved state.links 1 from 0 clock rest (hear_sequencer w state.servers.sequencer from letter).outs)
       sequencer_staged = go (hear_opens w from letter state.servers.sequencer from refl)
         where
           go : Opens w from letter (opened state.servers.sequencer) now → AllStaged q sites (moved state.links 1 from 0 clock rest now.outs)
-          go (first, (one, chain)) =
-              let s = starts one in
-              record {
-                on_links = step_all (LetterStaged q sites) 1 from 0 clock letter rest now.outs state.links front
-                    (chain_fit w from letter p q sites known_place later.last asked first now chain s.grows s.good s.fit) later_links;
-                waits = λ t r h. (let good = s.good t r (chain_waits w from letter p q sites known_place later.last first now chain t r h) in later_are t r.writes r.under good.1 good.0);
-                prepared = λ k s at up last t r f. later_prepared k s (landed.says.reached.vectors k s at) t r.phase (before k s at t r f);
-              }
+          go (first, (one, chain)) = record {
+            on_links = step_all (LetterStaged q sites) 1 from 0 clock letter rest now.outs state.links front (chain_fit w from letter p q sites known_place later.last asked first now chain (first_grows w from letter one) good (first_fit one tt)) later_links;
+            waits = λ t r h. (let g = good t r (chain_waits w from letter first now chain t r h) in later_are t r.writes r.under g.1 g.0);
+            prepared = λ k s at up last t r f. later_prepared k s (landed.says.reached.vectors k s at) t r.phase (before k s at t r f);
+          }
+            where
+              good : (t : Txn) (r : Request) → HasWait (so_far first) t r → IsGood t r
+              good t r h = elim (first_waits w from letter one t r h) [ inl old ↦ waited t r old | inr new ↦ asked t r new ]
