@@ -63,3 +63,23 @@ module _ {V : Type 0} {D : V → Type 0} where
 
   pub sequencer_goes : (say : Says V D) (w : Workload) (xs : List (ServerNode V D)) (x : ServerNode V D) (q : Sequencer V D) → 1 < length xs → AllGo say w xs → x ≡ slice_index_or xs 1 x → x.server ≡ servers.Sequencer q → GoesOn say w (servers.Sequencer q)
   sequencer_goes say w xs x q low go at is = subst (GoesOn say w) is (subst (λ y. GoesOn say w y.server) (sym at) (go 1 x low).server)
+
+  -- a node by its place
+  pub server_at : (w : Workload) (xs : List (ServerNode V D)) (s : steps.Servers) (k : ℕ) (x : ServerNode V D) → AreServers w xs s → k < length xs → x ≡ slice_index_or xs k x → IsServer k x.server s
+  server_at w xs s k x are low at = subst (λ y. IsServer k y.server s) (sym at) (are.are k x low)
+
+  only_sequencer : (server : Server V D) (s : steps.Servers) → IsServer 1 server s → ((q : Sequencer V D) → server ≡ servers.Sequencer q → ⊥) → ⊥
+  only_sequencer (servers.Monitor fired) s is off = let e : 1 ≡ 0 = is.0 in omega (arith, e)
+  only_sequencer (servers.Sequencer q) s is off = off q refl
+  only_sequencer (servers.Site site) s is off = let e : 1 ≡ suc (suc is.0) = is.1 in omega (arith, e)
+
+  -- the node with number 1 is the sequencer
+  pub must_decide : (w : Workload) (xs : List (ServerNode V D)) (s : steps.Servers) (x : ServerNode V D) → AreServers w xs s → x ≡ slice_index_or xs 1 x → ((q : Sequencer V D) → x.server ≡ servers.Sequencer q → ⊥) → ⊥
+  must_decide w xs s x are at off = only_sequencer x.server s (server_at w xs s 1 x are (second w xs s are) at) off
+
+  -- its controllers can be given back
+  pub racked : (say : Says V D) (w : Workload) (q : Sequencer V D) → GoesOn say w (servers.Sequencer q) → deciding.IsRacked say q
+  racked say w q g = (g.0 g.2).kept.force.racked
+
+  pub goes_at : (say : Says V D) (w : Workload) (xs : List (ServerNode V D)) (k : ℕ) (x : ServerNode V D) → AllGo say w xs → k < length xs → x ≡ slice_index_or xs k x → Goes say w x
+  goes_at say w xs k x go low at = subst (λ y. Goes say w y) (sym at) (go k x low)

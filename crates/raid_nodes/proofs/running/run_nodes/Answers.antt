@@ -1,4 +1,3 @@
-use denote.Param.Send.{sendable}
 use Rattle.raid_nodes.proofs.Runs.{idle_ran, spent_ran}
 use Rattle.raid_nodes.proofs.running.run_nodes.Goals as goal
 
@@ -7,6 +6,3 @@ returns-clause-idle g c = idle_ran _ c.args.workload.now _ c.args.most _ _ c.req
 
 pub returns-clause-spent : goal.returns-clause-spent
 returns-clause-spent g c = spent_ran _ c.args.workload.now _ c.args.most _ _ c.requires.open _ c.run_rounds.ensures.reached c.run_rounds.ensures.whole
-
-pub run_rounds-requires-send-N : goal.run_rounds-requires-send-N
-run_rounds-requires-send-N g c κs within = search sendable depth 40
