@@ -116,7 +116,11 @@ pub fn finals(alloc: Global, workload: &Workload, history: &History) -> Result<P
 }
 
 /// The copies of a site.
-pub fn copies_at(alloc: Global, workload: &Workload, site: &SiteServer) -> Result<CopyList, NoMemory>
+pub fn copies_at(
+    alloc: Global,
+    workload: &Workload,
+    site: &SiteServer,
+) -> Result<CopyList, NoMemory>
     requires { GoesOn workload.now site.now }
     ensures { IfOk result (λ lines. lines ≡ copy_lines (state_of site.now)) }
 {

@@ -43,5 +43,5 @@ seat-requires-clause-opened g c =
     let long : length c.welcome_all.new.senders ≡ length c.deref_mut.result.now = c.in_ok-welcome_all.ensures.long in
     let written = with_items_is row after (omega (arith, long, c.deref_mut.ensures.len)) in
     subst (λ (rows : List (List Sender)). AreOpened w rows (map (λ (r : Vec Receiver Global). r.items) c.in_ok-ends.ends.inputs.items))
-          (sym (map-set (λ (r : Vec Sender Global). r.items) outs 1 _ ∙ ap (slice_set (map (λ (r : Vec Sender Global). r.items) outs) 1) written))
-          (opened w n (map (λ (r : Vec Sender Global). r.items) outs) (map (λ (r : Vec Receiver Global). r.items) c.in_ok-ends.ends.inputs.items) after refl all welcomed)
+    (sym (map-set (λ (r : Vec Sender Global). r.items) outs 1 _ ∙ ap (slice_set (map (λ (r : Vec Sender Global). r.items) outs) 1) written))
+    (opened w n (map (λ (r : Vec Sender Global). r.items) outs) (map (λ (r : Vec Receiver Global). r.items) c.in_ok-ends.ends.inputs.items) after refl all welcomed)
