@@ -6,7 +6,6 @@
 pub mod linking;
 pub mod making;
 pub mod node;
-pub mod running;
 pub mod sending;
 pub mod server;
 pub mod settling;
