@@ -1,0 +1,3 @@
+mod Measured
+pub mod Opening
+pub mod Sums
