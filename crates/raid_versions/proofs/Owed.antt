@@ -6,8 +6,8 @@ use Rattle.raid_base.specs.Sites.{site}
 use Rattle.raid_workload.specs.declared.workload.Workload.{Workload}
 use Rattle.raid_rules.specs.History.{noted}
 use Rattle.raid_message.specs.declared.letter.Letter.{Letter}
-use Rattle.raid_steps.specs.State.{Copy, SiteState}
-use Rattle.raid_steps.specs.Copies.{copy_of}
+use Rattle.raid_steps.specs.State.{SiteState}
+use Rattle.raid_steps.specs.Copies.{holds_copy}
 use Rattle.raid_steps.specs.Site.{hear_site}
 use Rattle.raid_steps.specs.World.{World, link}
 use Rattle.raid_sessions.proofs.Mail.{moved}
@@ -19,9 +19,9 @@ use Rattle.raid_staged.specs.Staged.{StagedFirst}
 use Rattle.raid_versions.specs.Versions.{LastVersions, HaveLastVersions}
 
 module _ (w : Workload) where
-  -- the copies of the site at a place are of items that it holds
+  -- the site at a place has copies of just the items that it holds
   abbrev pub HoldsOwn : ℕ → SiteState → Type 0
-  HoldsOwn k s = (x : Item) (c : Copy) → copy_of s x ≡ Some c → is_held w (site (k + 1)) x ≡ true
+  HoldsOwn k s = (x : Item) → holds_copy s x ≡ is_held w (site (k + 1)) x
 
   -- what holds in each run below this layer
   pub record Known (state : World) : Type 0 where
