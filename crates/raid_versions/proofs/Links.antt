@@ -10,8 +10,9 @@ use Rattle.raid_base.specs.declared.entry.Noted.{Noted}
 use Rattle.raid_message.specs.declared.letter.Message.{Message}
 use Rattle.raid_message.specs.declared.letter.Message.TheVariants as letters
 use Rattle.raid_message.specs.declared.letter.Letter.{Letter}
+use Rattle.raid_sessions.proofs.Lists.{same_self}
 use Rattle.raid_asks.proofs.Facts.{or_parts}
-use Rattle.raid_versions.specs.Versions.{was_written, IsVersion, applies, is_pending, after_message, after_letter, latest, reads_copy, Along}
+use Rattle.raid_versions.specs.Versions.{was_written, IsVersion, applies, is_pending, after_message, after_letter, latest, NonePending, reads_copy, Along}
 
 -- more letters
 pub pending_on : (m n : ℕ) (xs ys : List Letter) → is_pending m n (xs ++ ys) ≡ (is_pending m n xs || is_pending m n ys)
@@ -220,3 +221,32 @@ along_others Q p x m v (l ∷ ls) ys a h = (
   (λ to. absurd (true≢false (sym to ∙ a.0))),
   subst (λ k. Along Q p x m k (ls ++ ys)) (sym (ap (λ b. if b then after_message p x v l.message else v) a.0)) (along_others Q p x m v ls ys a.1 h),
 )
+
+-- what is pending writes the item as before
+pub pending_alike : (p q : List Noted) (x : Item) (m n : ℕ) (ls : List Letter) → AreAlike p q x ls → is_pending m n ls ≡ true → was_written q x n ≡ was_written p x n
+pending_alike p q x m n [] a h = absurd (true≢false (sym h))
+pending_alike p q x m n (l ∷ ls) a h = elim (or_parts (l.to == m && applies n l.message) (is_pending m n ls) h) [
+  | inl here ↦ say l.message a.0 (and_parts (l.to == m) (applies n l.message) here).1
+  | inr more ↦ pending_alike p q x m n ls a.1 more
+]
+  where
+    say : (message : Message) → IsAlike p q x message → applies n message ≡ true → was_written q x n ≡ was_written p x n
+    say (letters.Apply t k) same r = subst (λ z. was_written q x z ≡ was_written p x z) (eqb-true k n r) same
+    say other same r = absurd (true≢false (sym r))
+
+-- where nothing that writes the item is pending, the copy keeps its version
+pub latest_quiet : (p : List Noted) (x : Item) (m v : ℕ) (ls : List Letter) → NonePending p x m ls → latest p x m v ls ≡ v
+latest_quiet p x m v [] none = refl
+latest_quiet p x m v (l ∷ ls) none = ap (λ k. latest p x m k ls) (go (l.to == m) refl) ∙ latest_quiet p x m v ls (λ n pending. none n (ap (λ b. (l.to == m && applies n l.message) || b) pending ∙ or_true (l.to == m && applies n l.message)))
+  where
+    or_true : (b : Bool) → (b || true) ≡ true
+    or_true true = refl
+    or_true false = refl
+
+    say : (message : Message) → ((n : ℕ) → applies n message ≡ true → was_written p x n ≡ false) → after_message p x v message ≡ v
+    say (letters.Apply t k) each = ap (λ b. if b then k else v) (each k (same_self k))
+    say other each = refl
+
+    go : (b : Bool) → (l.to == m) ≡ b → (if b then after_message p x v l.message else v) ≡ v
+    go true to = say l.message (λ n is. none n (ap (λ b. b || is_pending m n ls) (ap (λ b. b && applies n l.message) to ∙ is)))
+    go false to = refl
