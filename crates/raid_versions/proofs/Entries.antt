@@ -1,7 +1,7 @@
 -- Each entry that the sequencer places keeps what copies have and get.
 use Rattle.std.proofs.Common.{◌≡◌, ◌⊎◌, inl, inr, ℕ, ◌+◌, ◌<◌, ◌≤◌, ◌==◌, nat_lt, Bool, true, false, not, ◌&&◌, ◌||◌, List, [], ◌∷◌, ◌++◌, length, fold, Option, Some, None, if◌then◌else◌, arith, sym, subst, ap, ◌∙◌, refl}
-use Rattle.std.specs.Prelude.{⊤, slice_get, find}
-use Rattle.std.specs.List.{AllByRecursion, list_any}
+use Rattle.std.specs.Prelude.{⊤, slice_get}
+use Rattle.std.specs.List.{AllByRecursion}
 use Rattle.std.proofs.lemmas.Bool.{and_parts, and_from, eqb-true, true≢false}
 use Rattle.raid_base.specs.declared.names.Txn.{Txn}
 use Rattle.raid_base.specs.declared.names.Item.{Item}
@@ -37,6 +37,7 @@ use Rattle.raid_asks.proofs.Notes.{all_sent}
 use Rattle.raid_letters.specs.Says.{is_held, is_applied}
 use Rattle.raid_moves.proofs.Places.{all_both}
 use Rattle.raid_versions.specs.Versions.{was_written, was_written_by, IsVersion, OwesLast, IsLive, is_pending, latest, NonePending, NoGap, reads_copy, Along, ReadsWhole, IsKeptUp, ApplyOwed, AckTold, CopyTold, Told, Sends, LastVersions}
+use Rattle.raid_versions.proofs.Copied.{held_copied, copied_held}
 use Rattle.raid_versions.proofs.Grown.{kept_more, kept_commit, kept_risen, Was, was, risen, Grows, Owes, grown}
 use Rattle.raid_versions.proofs.Links.{IsUnread, AreUnread, IsUnapplied, AreUnapplied, ApplyOnly, along_unread, unread, pending_only, latest_off, latest_alike, latest_quiet, all_alike}
 use Rattle.raid_versions.proofs.Mid.{ApplySays, Mid, Alive, IsTold, owes_now, version_now, after, inside, known, stand_now, live_now, grows_now, only_now, mid_now}
@@ -82,28 +83,12 @@ module _ (w : Workload) (sites : List SiteState) (long : length sites ≡ w.site
   lock_now : (s : Site) (x : Item) → is_copy_locked q s x ≡ turn_lock s x p (is_copy_locked p s x) e
   lock_now s x = is_copy_locked_push p (next p e) s x
 
-  -- a copy that the site has
+  -- copies that the site has
   has_copy : (k : ℕ) (s : SiteState) → slice_get sites k ≡ Some s → (x : Item) → is_held w (site (k + 1)) x ≡ true → (c : Copy) × (copy_of s x ≡ Some c)
-  has_copy k s at x is = found s.copies (held k s at x ∙ is)
-    where
-      found : (cs : List Copy) → list_any (λ (c : Copy). is_item x c.item) cs ≡ true → (c : Copy) × (find (λ (c : Copy). is_item x c.item) cs ≡ Some c)
-      found [] r = absurd (true≢false (sym r))
-      found (c ∷ cs) r = go (is_item x c.item) r (found cs)
-        where
-          go : (b : Bool) → (b || list_any (λ (c : Copy). is_item x c.item) cs) ≡ true → (list_any (λ (c : Copy). is_item x c.item) cs ≡ true → (d : Copy) × (find (λ (c : Copy). is_item x c.item) cs ≡ Some d)) → (d : Copy) × ((if b then Some c else find (λ (c : Copy). is_item x c.item) cs) ≡ Some d)
-          go true r rest = (c, refl)
-          go false r rest = rest r
+  has_copy k s at x is = held_copied s x (held k s at x ∙ is)
 
   is_copied : (k : ℕ) (s : SiteState) → slice_get sites k ≡ Some s → (x : Item) (c : Copy) → copy_of s x ≡ Some c → is_held w (site (k + 1)) x ≡ true
-  is_copied k s at x c has = sym (held k s at x) ∙ found s.copies has
-    where
-      found : (cs : List Copy) → find (λ (c : Copy). is_item x c.item) cs ≡ Some c → list_any (λ (c : Copy). is_item x c.item) cs ≡ true
-      found [] r = absurd (cc r)
-      found (d ∷ cs) r = go (is_item x d.item) r (found cs)
-        where
-          go : (b : Bool) → (if b then Some d else find (λ (c : Copy). is_item x c.item) cs) ≡ Some c → (find (λ (c : Copy). is_item x c.item) cs ≡ Some c → list_any (λ (c : Copy). is_item x c.item) cs ≡ true) → (b || list_any (λ (c : Copy). is_item x c.item) cs) ≡ true
-          go true r rest = refl
-          go false r rest = rest r
+  is_copied k s at x c has = sym (held k s at x) ∙ copied_held s x c has
 
   -- what the letter told of the site
   acked : (t : Txn) (r : Site) → Why w from letter first p (Ack t r) → (k : ℕ) (s : SiteState) → slice_get sites k ≡ Some s → site (k + 1) ≡ r → AckTold p s t

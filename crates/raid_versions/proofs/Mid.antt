@@ -73,7 +73,7 @@ module _ (w : Workload) (sites : List SiteState) where
   IsTold from letter first = (k : ℕ) (s : SiteState) → from ≡ k + 2 → slice_get sites k ≡ Some s → Told first s letter.message
 
 -- one more entry
-last_push : (p : List Noted) (e : Entry) (s : Site) → last_session (add p e) s ≡ turn_last s (last_session p s) e
+pub last_push : (p : List Noted) (e : Entry) (s : Site) → last_session (add p e) s ≡ turn_last s (last_session p s) e
 last_push p e s = fold-append (λ last n. turn_last s last n.entry) 1 p (next p e ∷ [])
 
 pub owes_now : (p : List Noted) (e : Entry) (s : Site) (t : Txn) → owes (add p e) s t ≡ turn_owed s t (owes p s t) e

@@ -50,8 +50,9 @@ use Rattle.raid_letters.specs.Says.{is_held}
 use Rattle.raid_letters.proofs.Sends.{first_in}
 
 module _ (w : Workload) where
-  -- a copy that is to be sent for: the target's is locked, and the source's isn't
+  -- a copy that is to be sent for: the target has one, and it is locked, and the source's isn't
   pub record IsDue (p : List Noted) (c : Copying) : Type 0 where
+    pub held : is_held w c.target c.item ≡ true
     pub locked : is_copy_locked p c.target c.item ≡ true
     pub unlocked : is_copy_locked p c.source c.item ≡ false
 
@@ -91,7 +92,7 @@ module _ (w : Workload) where
         found x None c locked q e = absurd (cc e)
         found x (Some r) c locked q e =
             subst (IsDue p) (some_is (record { target = s; item = x; source = r }) c e)
-            (record { locked = (and_parts (is_held w s x) (is_copy_locked p s x) locked).1; unlocked = (source_unlocked p x r (first_in (sources w p x) r q)).1 })
+            (record { held = (and_parts (is_held w s x) (is_copy_locked p s x) locked).0; locked = (and_parts (is_held w s x) (is_copy_locked p s x) locked).1; unlocked = (source_unlocked p x r (first_in (sources w p x) r q)).1 })
 
         due : (x : Item) (c : Copying) → (if is_locked w p s x && not (under_way x) then option_map (λ r. let c : Copying = record { target = s; item = x; source = r } in c) (slice_get (sources w p x) 0) else None) ≡ Some c → IsDue p c
         due x c q = go (is_locked w p s x && not (under_way x)) refl q
