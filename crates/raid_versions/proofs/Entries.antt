@@ -134,24 +134,24 @@ module _ (w : Workload) (sites : List SiteState) (long : length sites ≡ w.site
         old = mid.last.unlocked k s at x c has
 
         plain : (d : Entry) → e ≡ d → holds x (writes_of d) ≡ false → ((t : Txn) → turn_owed here t true d ≡ true) → is_copy_locked p here x ≡ false → IsFit q
-        plain d is none keeps open = still d is none (λ t owed wrote. inr (keeps t)) (old open)
+        plain d is none keeps unlocked = still d is none (λ t owed wrote. inr (keeps t)) (old unlocked)
 
         commit : (t : Txn) (r : Request) (applied : List Site) → e ≡ Commit t r applied → (b : Bool) → holds x r.writes ≡ b → (if b then not (has_site applied here) else is_copy_locked p here x) ≡ false → IsFit q
-        commit t r applied is true wrote open =
+        commit t r applied is true wrote unlocked =
             inr (record {
               txn = t;
               wrote = subst (λ n. was_written_by q t x n ≡ true) (sym (version_now p e x ∙ ap (λ b. if b then length p + 1 else version p x) (ap (λ z. holds x (writes_of z)) is ∙ wrote)))
                   (at_last (writes_item t x) p e (ap (writes_item t x) is ∙ and_from (is_txn t t) (holds x r.writes) (same_self t.0) wrote));
-              owed = owes_now p e here t ∙ ap (turn_owed here t (owes p here t)) is ∙ or_right (owes p here t) (is_txn t t && has_site applied here) (and_from (is_txn t t) (has_site applied here) (same_self t.0) (there (has_site applied here) open));
+              owed = owes_now p e here t ∙ ap (turn_owed here t (owes p here t)) is ∙ or_right (owes p here t) (is_txn t t && has_site applied here) (and_from (is_txn t t) (has_site applied here) (same_self t.0) (there (has_site applied here) unlocked));
             })
           where
             there : (b : Bool) → not b ≡ false → b ≡ true
             there true r = refl
             there false r = absurd (true≢false r)
-        commit t r applied is false wrote open = still (Commit t r applied) is wrote (λ u owed w. inr refl) (old open)
+        commit t r applied is false wrote unlocked = still (Commit t r applied) is wrote (λ u owed w. inr refl) (old unlocked)
 
         ack : (t : Txn) (r : Site) → e ≡ Ack t r → Why w from letter first p (Ack t r) → is_copy_locked p here x ≡ false → IsFit q
-        ack t r is y open = still (Ack t r) is refl keeps (old open)
+        ack t r is y unlocked = still (Ack t r) is refl keeps (old unlocked)
           where
             keeps : (u : Txn) → owes p here u ≡ true → was_written_by p u x (version p x) ≡ true → (c.version ≡ version p x) ⊎ (not (is_txn u t && is_site here r) ≡ true)
             keeps u owed wrote = go (is_txn u t && is_site here r) refl
@@ -166,7 +166,7 @@ module _ (w : Workload) (sites : List SiteState) (long : length sites ≡ w.site
                 go false is = inr refl
 
         down : (r : Site) → e ≡ Down r → (is_copy_locked p here x || (is_site here r && owes_for p here x)) ≡ false → IsFit q
-        down r is open = split (is_copy_locked p here x) refl (is_site here r && owes_for p here x) refl open
+        down r is unlocked = split (is_copy_locked p here x) refl (is_site here r && owes_for p here x) refl unlocked
           where
             split : (a : Bool) → is_copy_locked p here x ≡ a → (b : Bool) → (is_site here r && owes_for p here x) ≡ b → (a || b) ≡ false → IsFit q
             split true qa b qb f = absurd (true≢false f)
@@ -191,7 +191,7 @@ module _ (w : Workload) (sites : List SiteState) (long : length sites ≡ w.site
                     go false is none = inr refl
 
         clear : (r : Site) (y : Item) (v : ℕ) → e ≡ Clear r y v → Placeable w p (Clear r y v) → Why w from letter first p (Clear r y v) → (is_copy_locked p here x && not (is_site here r && is_item x y)) ≡ false → IsFit q
-        clear r y v is g told_why open = split (is_copy_locked p here x) refl (is_site here r && is_item x y) refl open
+        clear r y v is g told_why unlocked = split (is_copy_locked p here x) refl (is_site here r && is_item x y) refl unlocked
           where
             split : (a : Bool) → is_copy_locked p here x ≡ a → (b : Bool) → (is_site here r && is_item x y) ≡ b → (a && not b) ≡ false → IsFit q
             split true qa true qb f =
@@ -206,11 +206,11 @@ module _ (w : Workload) (sites : List SiteState) (long : length sites ≡ w.site
             split false qa b qb f = plain (Clear r y v) is refl (λ t. refl) qa
 
         go : (d : Entry) → e ≡ d → Placeable w p d → Why w from letter first p d → turn_lock here x p (is_copy_locked p here x) d ≡ false → IsFit q
-        go (Commit t r applied) is g y open = commit t r applied is (holds x r.writes) refl open
-        go (Ack t r) is g y open = ack t r is y open
-        go (Down r) is g y open = down r is open
-        go (Clear r y v) is g told_why open = clear r y v is g told_why open
-        go other is g y open = plain other is refl (λ t. refl) open
+        go (Commit t r applied) is g y unlocked = commit t r applied is (holds x r.writes) refl unlocked
+        go (Ack t r) is g y unlocked = ack t r is y unlocked
+        go (Down r) is g y unlocked = down r is unlocked
+        go (Clear r y v) is g told_why unlocked = clear r y v is g told_why unlocked
+        go other is g y unlocked = plain other is refl (λ t. refl) unlocked
 
   -- a site that goes down isn't live
   down_other : (r : Site) → e ≡ Down r → (k : ℕ) (s : SiteState) → IsLive q sites k s → is_site (site (k + 1)) r ≡ false

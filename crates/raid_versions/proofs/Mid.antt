@@ -1,5 +1,5 @@
 -- What holds in the middle of the sequencer's step, and what one entry makes of it but for the copies.
-use Rattle.std.proofs.Common.{◌≡◌, ◌⊎◌, inl, inr, ℕ, ◌+◌, ◌-◌, ◌<◌, ◌≤◌, ◌==◌, nat_lt, Bool, true, false, not, ◌&&◌, ◌||◌, List, [], ◌∷◌, ◌++◌, length, fold, if◌then◌else◌, arith, sym, subst, ap, ◌∙◌, refl}
+use Rattle.std.proofs.Common.{◌≡◌, ◌⊎◌, inl, inr, ℕ, ◌+◌, ◌-◌, ◌<◌, ◌≤◌, ◌==◌, nat_lt, Bool, true, false, not, ◌&&◌, ◌||◌, List, [], ◌∷◌, ◌++◌, length, fold, Some, if◌then◌else◌, arith, sym, subst, ap, ◌∙◌, refl}
 use Rattle.std.specs.Prelude.{⊤, slice_get}
 use Rattle.std.specs.List.{AllByRecursion}
 use Rattle.std.proofs.lemmas.Bool.{and_parts, eqb-true, true≢false}
@@ -253,11 +253,11 @@ module _ (w : Workload) (sites : List SiteState) (long : length sites ≡ w.site
           elim st.so [ inl down ↦ omega (arith, here, down) | inr up ↦ omega (arith, here, up) ]
 
       go : (d : Entry) → SendsOf w q ask ToPast d
-      go (Read t x s) = (each s _, each (home w t) _)
+      go (Read t x s) = (each s (letters.ReadDo t ask x (home w t) (session (vector w q) (home w t))), each (home w t) (letters.Serving t ask s))
       go (Commit t r applied) = λ s. ((λ there. each s (letters.Apply t (length q))), each s (letters.Done t))
       go (Abort t cause act) = λ s. each s (rows.drop_of w t cause)
       go (Down r) = λ s. each s (letters.DownNote r)
-      go (Up r n) = (each r _, (λ s. each s (letters.UpNote r n)))
+      go (Up r n) = (each r (letters.Welcome (vector w q) (rows.next_number w q r)), (λ s. each s (letters.UpNote r n)))
       go other = tt
 
   past_now : (k : ℕ) → k < w.sites → AllByRecursion (λ (l : Letter). l.to ≤ last_session q (site (k + 1))) (link after (k + 2) 1)

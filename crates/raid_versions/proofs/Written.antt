@@ -51,7 +51,7 @@ at_weaken f g each p n h =
     any_weaken (λ z. (z.at == n) && f z.entry) (λ z. (z.at == n) && g z.entry)
     (λ z q. (let both = and_parts (z.at == n) (f z.entry) q in and_from (z.at == n) (g z.entry) both.0 (each z.entry both.1))) p h
 
-long_push : (p : List Noted) (e : Entry) → length (add p e) ≡ length p + 1
+pub long_push : (p : List Noted) (e : Entry) → length (add p e) ≡ length p + 1
 long_push p e = length-append p (next p e ∷ [])
 
 -- numbers are from 1 to how many entries there are
