@@ -1,0 +1,4 @@
+pub mod Links
+pub mod Owed
+pub mod Steps
+pub mod Written
