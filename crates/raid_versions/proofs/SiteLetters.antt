@@ -33,16 +33,16 @@ behind_apply m number k (l ∷ ls) a h = go (l.to == m) (applies k l.message) re
     go true false is h rest = rest h
     go false c is h rest = rest h
 
-module _ (p : List Noted) (x : Item) (m : ℕ) where
-  -- what is left is pending still
-  pub pending_rest : (number : ℕ) (l : Letter) (ls : List Letter) → is_pending m number ls ≡ true → is_pending m number (l ∷ ls) ≡ true
-  pending_rest number l ls h = or_right (l.to == m && applies number l.message) (is_pending m number ls) h
+-- what is left is pending still
+pub pending_rest : (m number : ℕ) (l : Letter) (ls : List Letter) → is_pending m number ls ≡ true → is_pending m number (l ∷ ls) ≡ true
+pending_rest m number l ls h = or_right (l.to == m && applies number l.message) (is_pending m number ls) h
 
+module _ (p : List Noted) (x : Item) (m : ℕ) where
   pub above_rest : (v : ℕ) (l : Letter) (ls : List Letter) → AreAbove p x m v (l ∷ ls) → AreAbove p x m v ls
-  above_rest v l ls above number pending written = above number (pending_rest number l ls pending) written
+  above_rest v l ls above number pending written = above number (pending_rest m number l ls pending) written
 
   pub none_rest : (l : Letter) (ls : List Letter) → NonePending p x m (l ∷ ls) → NonePending p x m ls
-  none_rest l ls none number pending = none number (pending_rest number l ls pending)
+  none_rest l ls none number pending = none number (pending_rest m number l ls pending)
 
   -- a letter that applies a write of the item sets the version; any other leaves it
   pub data Effect (l : Letter) : Type 0 where
