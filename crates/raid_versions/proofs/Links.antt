@@ -185,23 +185,20 @@ latest_stays p x m number (l ∷ ls) a = ap (λ k. latest p x m k ls) (go (l.to 
 
 pub latest_now : (p : List Noted) (x : Item) (m v number : ℕ) (ls : List Letter) → was_written p x number ≡ true → ApplyOnly number ls → is_pending m number ls ≡ true → latest p x m v ls ≡ number
 latest_now p x m v number [] written a h = absurd (true≢false (sym h))
-latest_now p x m v number (l ∷ ls) written a h = go (l.to == m) refl (applies number l.message) refl
+latest_now p x m v number (l ∷ ls) written a h = go (l.to == m) refl (applies number l.message) refl (latest_now p x m (after_letter p x m v l) number ls written a.1)
   where
     now : (message : Message) → AppliesOnly number message → applies number message ≡ true → after_message p x v message ≡ number
     now (letters.Apply t k) is q = ap (λ b. if b then k else v) (ap (was_written p x) is ∙ written) ∙ is
     now other is q = absurd (true≢false (sym q))
 
-    later : is_pending m number ls ≡ true → latest p x m (after_letter p x m v l) ls ≡ number
-    later more = latest_now p x m (after_letter p x m v l) number ls written a.1 more
+    both : (b : Bool) → ((b && false) || is_pending m number ls) ≡ is_pending m number ls
+    both true = refl
+    both false = refl
 
-    go : (b : Bool) → (l.to == m) ≡ b → (c : Bool) → applies number l.message ≡ c → latest p x m (after_letter p x m v l) ls ≡ number
-    go true to true is = ap (λ k. latest p x m k ls) (ap (λ b. if b then after_message p x v l.message else v) to ∙ now l.message a.0 is) ∙ latest_stays p x m number ls a.1
-    go true to false is = later (sym (ap (λ c. (l.to == m && c) || is_pending m number ls) is ∙ both (l.to == m)) ∙ h)
-      where
-        both : (b : Bool) → ((b && false) || is_pending m number ls) ≡ is_pending m number ls
-        both true = refl
-        both false = refl
-    go false to c is = later (sym (ap (λ b. (b && applies number l.message) || is_pending m number ls) to) ∙ h)
+    go : (b : Bool) → (l.to == m) ≡ b → (c : Bool) → applies number l.message ≡ c → (is_pending m number ls ≡ true → latest p x m (after_letter p x m v l) ls ≡ number) → latest p x m (after_letter p x m v l) ls ≡ number
+    go true to true is later = ap (λ k. latest p x m k ls) (ap (λ b. if b then after_message p x v l.message else v) to ∙ now l.message a.0 is) ∙ latest_stays p x m number ls a.1
+    go true to false is later = later (sym (ap (λ c. (l.to == m && c) || is_pending m number ls) is ∙ both (l.to == m)) ∙ h)
+    go false to c is later = later (sym (ap (λ b. (b && applies number l.message) || is_pending m number ls) to) ∙ h)
 
 -- none is meant for the session
 abbrev pub AreForOthers : ℕ → List Letter → Type 0

@@ -63,11 +63,11 @@ numbered = by_last (λ h. (test : Entry → Bool) (n : ℕ) → at_number test (
     more h e rest test n q = subst (λ p. at_number test p n ≡ true → (1 ≤ n) × (n ≤ length p)) (sym (noted_push h e)) go q
       where
         go : at_number test (add (noted h) e) n ≡ true → (1 ≤ n) × (n ≤ length (add (noted h) e))
-        go r = (let l = long_push (noted h) e in
-        elim (at_parts test (noted h) e n r) [
-          | inl old ↦ (let b = rest test n old in (b.0, (let c = b.1 in omega (arith, l, c))))
-          | inr now ↦ (let c = now.0 in (omega (arith, c), omega (arith, c, l)))
-        ])
+        go r = split (at_parts test (noted h) e n r) (long_push (noted h) e)
+          where
+            split : (at_number test (noted h) n ≡ true) ⊎ ((n ≡ length (noted h) + 1) × (test e ≡ true)) → length (add (noted h) e) ≡ length (noted h) + 1 → (1 ≤ n) × (n ≤ length (add (noted h) e))
+            split (inl old) l = (let b = rest test n old in let c = b.1 in (b.0, omega (arith, l, c)))
+            split (inr now) l = (let c = now.0 in (omega (arith, c), omega (arith, c, l)))
 
 -- two tests that the entry with one number passes
 pub at_both : (h : List Entry) (f g : Entry → Bool) (n : ℕ) → at_number f (noted h) n ≡ true → at_number g (noted h) n ≡ true → at_number (λ e. f e && g e) (noted h) n ≡ true
