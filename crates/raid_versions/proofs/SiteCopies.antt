@@ -1,18 +1,16 @@
 -- The copies of a site after the writes of a Commit were applied, and after one copy was renewed: which versions they have.
-use Rattle.std.proofs.Common.{◌≡◌, ℕ, ℤ, ◌==◌, Bool, true, false, not, ◌||◌, List, [], ◌∷◌, map, filter, find, Option, Some, None, option_map, if◌then◌else◌, sym, subst, ap, ◌∙◌, refl}
+use Rattle.std.proofs.Common.{◌≡◌, ℕ, ℤ, Bool, true, false, ◌||◌, List, [], ◌∷◌, map, find, Option, Some, None, option_map, if◌then◌else◌, sym, subst, ap, ◌∙◌, refl}
 use Rattle.std.specs.List.{AllByRecursion, list_any}
 use Rattle.std.specs.Option.{option_map_or}
 use Rattle.std.proofs.lemmas.Bool.{eqb-true, true≢false}
 use Rattle.raid_base.specs.declared.names.Txn.{Txn}
 use Rattle.raid_base.specs.declared.names.Item.{Item}
 use Rattle.raid_base.specs.declared.names.Site.{Site}
-use Rattle.raid_base.specs.Names.{is_txn, is_item, has_site, holds}
+use Rattle.raid_base.specs.Names.{is_txn, is_item, holds}
 use Rattle.raid_base.specs.Find.{first_of}
 use Rattle.raid_workload.specs.declared.workload.Workload.{Workload}
-use Rattle.raid_workload.specs.Parts.{placement}
-use Rattle.raid_rules.specs.Sessions.{holders}
 use Rattle.raid_steps.specs.State.{Copy, SiteState}
-use Rattle.raid_steps.specs.Copies.{copy_of, holds_copy, staged_of, renewed, set_copy}
+use Rattle.raid_steps.specs.Copies.{copy_of, holds_copy, staged_of, renewed}
 use Rattle.raid_steps.specs.Programs.{held_by}
 use Rattle.raid_moves.proofs.Places.{nothing, something}
 use Rattle.raid_letters.specs.Says.{is_held}
@@ -50,7 +48,7 @@ pub found_mapped : (f : Copy → Copy) → ((c : Copy) → (f c).item ≡ c.item
 found_mapped f same x [] d q = absurd (nothing q)
 found_mapped f same x (c ∷ cs) d q = go (is_item x c.item) (subst (λ y. (if is_item x y then Some (f c) else find (λ (c : Copy). is_item x c.item) (map f cs)) ≡ Some d) (same c) q) (found_mapped f same x cs d)
   where
-    abbrev Made : Option Copy → Type 0
+    Made : Option Copy → Type 0
     Made o = (b : Copy) × ((o ≡ Some b) × (f b ≡ d))
 
     go : (b : Bool) → (if b then Some (f c) else find (λ (c : Copy). is_item x c.item) (map f cs)) ≡ Some d → (find (λ (c : Copy). is_item x c.item) (map f cs) ≡ Some d → Made (find (λ (c : Copy). is_item x c.item) cs)) → Made (if b then Some c else find (λ (c : Copy). is_item x c.item) cs)
@@ -129,9 +127,6 @@ set_version x v version c = go (is_item x c.item)
 pub staged_has : (P : List (Item × ℤ) → Type 0) (s : SiteState) (t : Txn) (ps : List (Item × ℤ)) → staged_of s t ≡ Some ps → AllByRecursion (λ (e : Txn × List (Item × ℤ)). is_txn t e.0 ≡ true → P e.1) s.staged → P ps
 staged_has P s t ps q a = go s.staged q a
   where
-    abbrev Entry : Type 0
-    Entry = Txn × List (Item × ℤ)
-
     go : (es : List (Txn × List (Item × ℤ))) → option_map (λ (e : Txn × List (Item × ℤ)). e.1) (find (λ (e : Txn × List (Item × ℤ)). is_txn t e.0) es) ≡ Some ps → AllByRecursion (λ (e : Txn × List (Item × ℤ)). is_txn t e.0 ≡ true → P e.1) es → P ps
     go [] q a = absurd (nothing q)
     go (e ∷ es) q a = here (is_txn t e.0) refl q (λ q. go es q a.1)

@@ -1,5 +1,5 @@
 -- What a history's entries say by their numbers: each number is of one entry, and a transaction's Commits have one number.
-use Rattle.std.proofs.Common.{◌≡◌, ◌⊎◌, inl, inr, ℕ, ℤ, ◌+◌, ◌*◌, ◌<◌, ◌≤◌, ◌==◌, nat_le, Bool, true, false, not, ◌&&◌, ◌||◌, List, [], ◌∷◌, ◌++◌, length, length-append, if◌then◌else◌, arith, sym, subst, ap, ◌∙◌, refl}
+use Rattle.std.proofs.Common.{◌≡◌, ◌⊎◌, inl, inr, ℕ, ◌+◌, ◌*◌, ◌≤◌, ◌==◌, nat_le, Bool, true, false, not, ◌&&◌, ◌||◌, List, [], ◌∷◌, ◌++◌, length, length-append, if◌then◌else◌, arith, sym, subst, ap, ◌∙◌, refl}
 use Rattle.std.specs.List.{AllByRecursion, list_any}
 use Rattle.std.proofs.lemmas.Bool.{and_parts, and_from, eqb-true, true≢false}
 use Rattle.raid_base.specs.declared.names.Txn.{Txn}
@@ -39,7 +39,7 @@ pub some_at : (test : Entry → Bool) (p : List Noted) (number : ℕ) → list_a
 some_at test [] number h = absurd (true≢false (sym h))
 some_at test (n ∷ ns) number h = go (n.at == number) refl (test n.entry) refl h (some_at test ns number)
   where
-    abbrev Found : Type 0
+    Found : Type 0
     Found = (e : Entry) × (HasAt (n ∷ ns) number e × (test e ≡ true))
 
     later : (e : Entry) × (HasAt ns number e × (test e ≡ true)) → Found

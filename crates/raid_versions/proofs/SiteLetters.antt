@@ -1,23 +1,19 @@
 -- What holds along the letters to a site: when its front letter is taken, and when a copy comes to have a later version.
-use Rattle.std.proofs.Common.{◌≡◌, ℕ, ◌+◌, ◌<◌, ◌≤◌, ◌==◌, nat_lt, Bool, true, false, ◌&&◌, ◌||◌, List, [], ◌∷◌, if◌then◌else◌, arith, sym, subst, ap, ◌∙◌, refl}
-use Rattle.std.specs.Prelude.{⊤}
-use Rattle.std.specs.List.{AllByRecursion, list_any}
-use Rattle.std.proofs.lemmas.Bool.{and_parts, eqb-true, true≢false}
+use Rattle.std.proofs.Common.{◌≡◌, ℕ, ◌<◌, ◌≤◌, ◌==◌, Bool, true, false, ◌&&◌, ◌||◌, List, [], ◌∷◌, if◌then◌else◌, arith, sym, subst, ap, ◌∙◌, refl}
+use Rattle.std.specs.List.{AllByRecursion}
+use Rattle.std.proofs.lemmas.Bool.{eqb-true, true≢false}
 use Rattle.raid_base.specs.declared.names.Item.{Item}
 use Rattle.raid_base.specs.declared.names.Txn.{Txn}
 use Rattle.raid_base.specs.declared.names.Site.{Site}
 use Rattle.raid_base.specs.declared.entry.Noted.{Noted}
-use Rattle.raid_base.specs.Names.{is_item}
-use Rattle.raid_base.specs.Sites.{site}
 use Rattle.raid_rules.specs.History.{version}
-use Rattle.raid_rules.specs.Sessions.{is_copy_locked}
 use Rattle.raid_message.specs.declared.letter.Message.{Message}
 use Rattle.raid_message.specs.declared.letter.Message.TheVariants as letters
 use Rattle.raid_message.specs.declared.letter.Letter.{Letter}
 use Rattle.raid_steps.specs.State.{SiteState}
 use Rattle.raid_asks.proofs.Facts.{or_right}
 use Rattle.raid_letters.specs.Says.{IsAfterApply, IsBefore, AreInTurn}
-use Rattle.raid_versions.specs.Versions.{was_written, applies, is_pending, after_message, after_letter, latest, AreAbove, NonePending, NoGap, Along, reads_copy, ReadsWhole, IsKeptUp, AboveAt, Sends}
+use Rattle.raid_versions.specs.Versions.{was_written, applies, is_pending, after_message, after_letter, latest, AreAbove, NonePending, NoGap, Along, reads_copy, ReadsWhole, IsKeptUp, Sends}
 
 -- an Apply that stands behind one with this number has a larger one
 behind_apply : (m number k : ℕ) (ls : List Letter) → AllByRecursion (λ (l : Letter). IsAfterApply number l.message) ls → is_pending m k ls ≡ true → number < k

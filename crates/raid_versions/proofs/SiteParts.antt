@@ -1,5 +1,5 @@
 -- What a site's step does to its copies, and what it tells of them: an Apply and a CopyValue change copies, and a CopyDo sends one.
-use Rattle.std.proofs.Common.{◌≡◌, ◌⊎◌, inl, inr, ℕ, ℤ, zero, suc, ◌+◌, ◌==◌, nat_le, Bool, true, false, not, ◌&&◌, List, [], ◌∷◌, ◌++◌, map, Option, Some, None, if◌then◌else◌, arith, sym, subst, ap, ◌∙◌, refl}
+use Rattle.std.proofs.Common.{◌≡◌, ◌⊎◌, inl, inr, ℕ, ℤ, suc, ◌+◌, nat_le, Bool, true, false, ◌&&◌, List, [], ◌∷◌, ◌++◌, map, Some, arith, sym, subst, ap, ◌∙◌, refl}
 use Rattle.std.specs.Prelude.{⊤}
 use Rattle.std.specs.List.{AllByRecursion}
 use Rattle.std.proofs.lemmas.Bool.{true≢false}
@@ -12,12 +12,12 @@ use Rattle.raid_message.specs.declared.letter.Message.{Message}
 use Rattle.raid_message.specs.declared.letter.Message.TheVariants as letters
 use Rattle.raid_message.specs.declared.letter.Letter.{Letter}
 use Rattle.raid_steps.specs.State.{Out, Turn, opened, tell, Copy, Running, SiteState}
-use Rattle.raid_steps.specs.Fits.{is_of_sequencer, is_of_site}
+use Rattle.raid_steps.specs.Fits.{is_of_sequencer}
 use Rattle.raid_steps.specs.Copies.{copy_of, staged_of, renewed, set_copy}
 use Rattle.raid_steps.specs.Programs as programs
 use Rattle.raid_steps.specs.Site.{fits_here, hear_site}
 use Rattle.raid_moves.specs.Moves as parts
-use Rattle.raid_moves.specs.Moves.{Ascend, Hears, Tells, Says, Given, Goes, comes_to, fresh, Idle, Row, Move, Moves, Reached}
+use Rattle.raid_moves.specs.Moves.{Ascend, Tells, Says, Given, Goes, comes_to, fresh, Idle, Row, Move, Moves}
 use Rattle.raid_moves.proofs.Left.{goes_leave, moves_leave}
 use Rattle.raid_moves.proofs.Steps.{site_moves}
 use Rattle.raid_sessions.proofs.Lists.{all_append}

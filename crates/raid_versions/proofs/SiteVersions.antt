@@ -1,17 +1,17 @@
 -- Each step of a site keeps the last versions.
-use Rattle.std.proofs.Common.{◌≡◌, ◌≢◌, ◌⊎◌, inl, inr, ℕ, ℤ, zero, suc, ◌+◌, ◌-◌, ◌<◌, ◌≤◌, ◌==◌, nat_le, Bool, true, false, ◌&&◌, List, [], ◌∷◌, length, map, find, Option, Some, None, if◌then◌else◌, arith, sym, subst, ap, ◌∙◌, refl}
+use Rattle.std.proofs.Common.{◌≡◌, ◌≢◌, ◌⊎◌, inl, inr, ℕ, ℤ, zero, suc, ◌+◌, ◌-◌, ◌<◌, ◌≤◌, ◌==◌, nat_le, Bool, true, false, ◌&&◌, List, [], ◌∷◌, map, find, Option, Some, None, if◌then◌else◌, arith, sym, subst, ap, ◌∙◌, refl}
 use Rattle.std.specs.Prelude.{⊤, slice_get, slice_set}
-use Rattle.std.specs.List.{AllByRecursion, list_any}
+use Rattle.std.specs.List.{AllByRecursion}
 use Rattle.std.proofs.lemmas.Bool.{and_from, eqb-true, true≢false}
 use Rattle.raid_base.specs.declared.names.Txn.{Txn}
 use Rattle.raid_base.specs.declared.names.Item.{Item}
 use Rattle.raid_base.specs.declared.names.Site.{Site}
 use Rattle.raid_base.specs.declared.entry.Entry.TheVariants.{Commit}
 use Rattle.raid_base.specs.declared.entry.Noted.{Noted}
-use Rattle.raid_base.specs.Names.{is_txn, is_item, holds}
+use Rattle.raid_base.specs.Names.{is_item, holds}
 use Rattle.raid_base.specs.Sites.{site}
 use Rattle.raid_workload.specs.declared.workload.Workload.{Workload}
-use Rattle.raid_rules.specs.History.{noted, has_committed, version}
+use Rattle.raid_rules.specs.History.{noted, version}
 use Rattle.raid_rules.specs.Sessions.{last_session, is_copy_locked}
 use Rattle.raid_message.specs.declared.letter.Message.{Message}
 use Rattle.raid_message.specs.declared.letter.Message.TheVariants as letters
@@ -40,7 +40,7 @@ use Rattle.raid_staged.proofs.Ends.{applied_committed}
 use Rattle.raid_versions.specs.Versions.{was_written, was_written_by, IsVersion, OwesLast, IsLive, applies, is_pending, after_message, after_letter, AreAbove, Along, IsKeptUp, ApplyOwed, AckTold, CopyTold, Told, AboveAt, Brings, Sends, LastVersions, HaveLastVersions}
 use Rattle.raid_versions.proofs.Owed.{Known, SiteOwes}
 use Rattle.raid_versions.proofs.SiteCopies.{same_item, found_item, found_held, found_mapped, renewed_item, renewed_version, set_in, set_item, set_version, staged_has}
-use Rattle.raid_versions.proofs.SiteFacts.{HasAt, at_holds, noted_once, commit_once, committed_known, Applying, applying, writes_at, writer_at}
+use Rattle.raid_versions.proofs.SiteFacts.{at_holds, noted_once, commit_once, committed_known, Applying, applying, writes_at, writer_at}
 use Rattle.raid_versions.proofs.SiteLetters.{pending_rest, Effect, leaves, sets, effect, kept_rest, kept_later, sends_later, along_weaken}
 use Rattle.raid_versions.proofs.SiteParts.{IsQuiet, Passes, IsSent, Copied, step_copies}
 use Rattle.raid_versions.proofs.SiteParts as made
