@@ -268,14 +268,19 @@ module _ (w : Workload) (state : World) (known : Known w state) (last : HaveLast
         staged_has (λ (pairs : List (Item × ℤ)). IsPartOf w here (Some commit.request.writes) pairs) own t ps q (all.staged j own at)
 
     -- the version that a copy has after it
+    after_it : (y : Item) (v : ℕ) → after_letter p y own.session v letter ≡ (if was_written p y number then number else v)
+    after_it y v = ap (λ b. if b then after_message p y v letter.message else v) tells.heard.meant ∙ ap (after_message p y v) tells.is
+
     version_now : (y : Item) (c : Copy) → copy_of own y ≡ Some c → (renewed number (held_by w here commit.request.writes) c).version ≡ after_letter p y own.session c.version letter
     version_now y c has =
         renewed_version w here number commit.request.writes c (subst (λ z. is_held w here z ≡ true) (sym item) (sym (known.held j own at y) ∙ found_held own y c has))
-        ∙ ap (λ b. if b then number else c.version) (ap (λ z. holds z commit.request.writes) item ∙ sym (writes y))
-        ∙ sym (ap (λ b. if b then after_message p y c.version letter.message else c.version) tells.heard.meant ∙ ap (after_message p y c.version) tells.is)
+        ∙ ap (λ b. if b then number else c.version) (ap (λ z. holds z commit.request.writes) item ∙ sym (writes y)) ∙ sym (after_it y c.version)
       where
         item : c.item ≡ y
         item = found_item own y c has
+
+    has_number : (y : Item) (c d : Copy) → copy_of own y ≡ Some c → renewed number (held_by w here commit.request.writes) c ≡ d → was_written p y number ≡ true → d.version ≡ number
+    has_number y c d has is written = ap (λ (z : Copy). z.version) (sym is) ∙ version_now y c has ∙ after_it y c.version ∙ ap (λ b. if b then number else c.version) written
 
     fares_applied : (y : Item) (c : Copy) → copy_of own y ≡ Some c → Fares y c.version (renewed number (held_by w here commit.request.writes) c).version
     fares_applied y c has = subst (Fares y c.version) (sym (version_now y c has)) (fares_front tells.by y c.version (after_letter p y own.session c.version letter) (grows (effect p y own.session letter)) (is (effect p y own.session letter)) (λ live. refl))
@@ -479,9 +484,7 @@ module _ (w : Workload) (state : World) (known : Known w state) (last : HaveLast
           let made_of = found_mapped (renewed number (held_by w here writes)) (renewed_item number (held_by w here writes)) x own.copies d
               (sym (ap (find (λ (c : Copy). is_item x c.item)) (same ∙ ap (λ z. map (renewed number z) own.copies) (part t number tells ps q))) ∙ has) in
           let written : was_written p x number ≡ true = subst (λ z. was_written p x z ≡ true) (one_number x n wrote) (written_by p t x n wrote) in
-          let now : d.version ≡ number =
-              ap (λ (z : Copy). z.version) (sym made_of.1.1) ∙ version_now t number tells x made_of.0 made_of.1.0
-              ∙ ap (λ b. if b then after_message p x made_of.0.version letter.message else made_of.0.version) tells.heard.meant ∙ ap (after_message p x made_of.0.version) tells.is ∙ ap (λ b. if b then number else made_of.0.version) written in
+          let now = has_number t number tells x made_of.0 d made_of.1.0 made_of.1.1 written in
           let is = one_number x n wrote in
           omega (arith, now, is)
 
