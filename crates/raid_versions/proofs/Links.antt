@@ -129,9 +129,8 @@ pending_none m n (l ∷ ls) a = go (l.to == m) (applies n l.message) (unapplied 
     go true c q r = ap (λ z. z || is_pending m n ls) q ∙ r
     go false c q r = r
 
-pub latest_none : (p : List Noted) (x : Item) (m v : ℕ) (ls : List Letter) → AreUnapplied ls → latest p x m v ls ≡ v
-latest_none p x m v [] a = refl
-latest_none p x m v (l ∷ ls) a = ap (λ k. latest p x m k ls) (go (l.to == m) l.message a.0) ∙ latest_none p x m v ls a.1
+pub after_none : (p : List Noted) (x : Item) (m v : ℕ) (l : Letter) → IsUnapplied l.message → after_letter p x m v l ≡ v
+after_none p x m v l u = go (l.to == m) l.message u
   where
     say : (message : Message) → IsUnapplied message → after_message p x v message ≡ v
     say (letters.Apply t k) u = absurd u
@@ -140,6 +139,10 @@ latest_none p x m v (l ∷ ls) a = ap (λ k. latest p x m k ls) (go (l.to == m) 
     go : (b : Bool) (message : Message) → IsUnapplied message → (if b then after_message p x v message else v) ≡ v
     go true message u = say message u
     go false message u = refl
+
+pub latest_none : (p : List Noted) (x : Item) (m v : ℕ) (ls : List Letter) → AreUnapplied ls → latest p x m v ls ≡ v
+latest_none p x m v [] a = refl
+latest_none p x m v (l ∷ ls) a = ap (λ k. latest p x m k ls) (after_none p x m v l a.0) ∙ latest_none p x m v ls a.1
 
 -- one Commit is applied
 pub pending_only : (m n number : ℕ) (ls : List Letter) → ApplyOnly number ls → is_pending m n ls ≡ true → n ≡ number
