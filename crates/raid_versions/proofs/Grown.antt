@@ -10,7 +10,7 @@ use Rattle.raid_base.specs.declared.entry.Noted.{Noted}
 use Rattle.raid_base.specs.Names.{is_item}
 use Rattle.raid_base.specs.Sites.{site}
 use Rattle.raid_rules.specs.History.{has_committed, version}
-use Rattle.raid_rules.specs.Sessions.{is_copy_locked}
+use Rattle.raid_rules.specs.Sessions.{owes, is_copy_locked}
 use Rattle.raid_message.specs.declared.letter.Message.{Message}
 use Rattle.raid_message.specs.declared.letter.Message.TheVariants as letters
 use Rattle.raid_message.specs.declared.letter.Letter.{Letter}
@@ -76,10 +76,11 @@ module _ (p q : List Noted) (here : Site) (x : Item) (m v : ℕ) (notes ys : Lis
       ]
 
 module _ (count : ℕ) (p q : List Noted) (number : ℕ) (sites : List SiteState) (links after : List (List (List Letter))) (new : ℕ → List Letter) where
-  -- a live site of the later history was live before; or it has just come up, and nothing that was on its way is for its session
+  -- a live site of the later history was live before; or it has just come up: nothing that was on its way is for its session, it owes no Ack, and it is told
+  -- nothing of copies
   pub data Was (k : ℕ) (s : SiteState) : Type 0 where
     was : IsLive p sites k s → Was k s
-    risen : AreForOthers s.session (link links (k + 2) 1) → Was k s
+    risen : AreForOthers s.session (link links (k + 2) 1) → ((t : Txn) → owes q (site (k + 1)) t ≡ false) → AreUnapplied (new k) → AreUnread (new k) → Was k s
 
   -- the later history has at most one Commit more, with this number; the links to sites have more letters, and the others no more
   pub record Grows : Type 0 where
@@ -116,7 +117,7 @@ module _ (count : ℕ) (p q : List Noted) (number : ℕ) (sites : List SiteState
 
         go : Was j s → (is_pending n number_ (link links (j + 2) 1) ≡ true) ⊎ (is_pending n number_ (new j) ≡ true) → v < number_
         go (was before) (inl old) = above s before same number_ old (sym (pending_alike p q x n number_ (link links (j + 2) 1) (g.alike j inside x) old) ∙ wrote)
-        go (risen others) (inl old) = absurd (true≢false (sym old ∙ pending_others n number_ (link links (j + 2) 1) (subst (λ z. AreForOthers z (link links (j + 2) 1)) same others)))
+        go (risen others none unapplied unread_) (inl old) = absurd (true≢false (sym old ∙ pending_others n number_ (link links (j + 2) 1) (subst (λ z. AreForOthers z (link links (j + 2) 1)) same others)))
         go before (inr now) = (let e = pending_only n number_ number (new j) (g.only j inside) now in let b = g.below x v is in omega (arith, e, b))
 
     told_on : (s : SiteState) (m : Message) → Told p s m → Told q s m
@@ -154,6 +155,6 @@ module _ (count : ℕ) (p q : List Noted) (number : ℕ) (sites : List SiteState
         go k s live x c has (was before) =
             along_on p q x s.session (Sends p sites links x) (Sends q sites after x) (new k) (λ v message behind is h. sends_on x v message behind k is h) c.version (last.versions k s live.at x c has) (link links (k + 2) 1) (g.alike k (g.inside k s live.at) x)
             (last.sent k s before x c has) (owes.sends k s live x c has)
-        go k s live x c has (risen others) =
+        go k s live x c has (risen others none unapplied unread_) =
             along_others (Sends q sites after x) q x s.session c.version (link links (k + 2) 1) (new k) others
             (subst (λ z. Along (Sends q sites after x) q x s.session z (new k)) (latest_others q x s.session c.version (link links (k + 2) 1) others) (owes.sends k s live x c has))

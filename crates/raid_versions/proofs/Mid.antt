@@ -37,9 +37,9 @@ use Rattle.raid_letters.specs.Says.{is_applied}
 use Rattle.raid_layers.proofs.Histories.{any_kept, committed_ended}
 use Rattle.raid_versions.specs.Versions.{was_written, was_written_by, IsVersion, IsLive, LastVersions, Told}
 use Rattle.raid_versions.proofs.Grown.{Was, was, risen, Grows}
-use Rattle.raid_versions.proofs.Links.{IsAlike, AreAlike, AppliesOnly, ApplyOnly, AreForOthers}
+use Rattle.raid_versions.proofs.Links.{IsAlike, AreAlike, IsUnread, AreUnread, IsUnapplied, AreUnapplied, AppliesOnly, ApplyOnly, AreForOthers}
 use Rattle.raid_versions.proofs.Owed.{HoldsOwn}
-use Rattle.raid_versions.proofs.Placing.{commit_whole, commit_runs, holder_up}
+use Rattle.raid_versions.proofs.Placing.{commit_whole, commit_runs, holder_up, up_was_down}
 use Rattle.raid_versions.proofs.Sent.{posts_others, place_is, SendsOf, sends_of}
 use Rattle.raid_versions.proofs.Steps.{Why}
 use Rattle.raid_versions.proofs.Written.{at_number, at_push, at_parts, at_kept, at_last, at_same, numbered, version_long, long_push}
@@ -285,8 +285,8 @@ module _ (w : Workload) (sites : List SiteState) (long : length sites ≡ w.site
               swap a b r = grind (arith, r)
       again other g is = true≢false (sym is)
 
-  live_now : (k : ℕ) (s : SiteState) → IsLive q sites k s → Was w.sites p q (length p + 1) sites links after new k s
-  live_now k s live = go e why (sym (last_push p e (site (k + 1))) ∙ live.last)
+  pub live_now : (k : ℕ) (s : SiteState) → IsLive q sites k s → Was w.sites p q (length p + 1) sites links after new k s
+  live_now k s live = go e refl why (sym (last_push p e (site (k + 1))) ∙ live.last)
     where
       others : (n : ℕ) → last_session p (site (k + 1)) < n → n ≡ s.session → AreForOthers s.session (link links (k + 2) 1)
       others n more is = all_weaken (λ (l : Letter). l.to ≤ last_session p (site (k + 1))) (λ (l : Letter). (l.to == s.session) ≡ false) (link links (k + 2) 1) (λ l low. apart l.to (last_session p (site (k + 1))) n s.session low more is) (mid.past k (inside k s live.at))
@@ -294,13 +294,31 @@ module _ (w : Workload) (sites : List SiteState) (long : length sites ≡ w.site
           apart : (a b n c : ℕ) → a ≤ b → b < n → n ≡ c → (a == c) ≡ false
           apart a b n c low more is = grind (arith, low, more, is)
 
-      rise : (b : Bool) (n : ℕ) (r : Site) → is_site (site (k + 1)) r ≡ b → last_session p r < n → (if b then n else last_session p (site (k + 1))) ≡ s.session → Was w.sites p q (length p + 1) sites links after new k s
-      rise true n r is more same = risen (others n (subst (λ z. last_session p z < n) (sym (no_site (site (k + 1)) r is)) more) same)
-      rise false n r is more same = was (record { at = live.at; up = live.up; last = same })
+      -- who comes up was down, and owes nothing
+      owing : (r : Site) (n : ℕ) → e ≡ Up r n → site (k + 1) ≡ r → (t : Txn) → owes q (site (k + 1)) t ≡ false
+      owing r n is here t = owes_now p e (site (k + 1)) t ∙ ap (turn_owed (site (k + 1)) t (owes p (site (k + 1)) t)) is ∙ none (owes p (site (k + 1)) t) refl
+        where
+          down : is_up w p (site (k + 1)) ≡ false
+          down = ap (is_up w p) here ∙ up_was_down w p r n (subst (Placeable w p) is goes)
 
-      go : (d : Entry) → Why w from letter first p d → turn_last (site (k + 1)) (last_session p (site (k + 1))) d ≡ s.session → Was w.sites p q (length p + 1) sites links after new k s
-      go (Up r n) y same = rise (is_site (site (k + 1)) r) n r refl y.1 same
-      go other y same = was (record { at = live.at; up = live.up; last = same })
+          not_up : (n : ℕ) → 1 ≤ n → nat_lt 0 n ≡ false → ⊥
+          not_up n some r = grind (arith, some, r)
+
+          none : (b : Bool) → owes p (site (k + 1)) t ≡ b → b ≡ false
+          none true o = absurd (not_up (session (vector w p) (site (k + 1))) (mid.owers k (inside k s live.at) t o) down)
+          none false o = refl
+
+      sent : (Q : Out → Type 0) (R : Letter → Type 0) → ((out : Out) → Q out → R (letter_of 0 clock out)) → (r : Site) (n : ℕ) → e ≡ Up r n → SendsOf w q ask Q (Up r n) → AllByRecursion R (new k)
+      sent Q R each r n is of = all_sent R (k + 2) 0 clock outs (all_weaken Q (λ (out : Out). out.0 ≡ k + 2 → R (letter_of 0 clock out)) outs (λ out h to. each out h) (sends_of w q ask Q e (subst (SendsOf w q ask Q) (sym is) of)))
+
+      rise : (b : Bool) (n : ℕ) (r : Site) → e ≡ Up r n → is_site (site (k + 1)) r ≡ b → last_session p r < n → (if b then n else last_session p (site (k + 1))) ≡ s.session → Was w.sites p q (length p + 1) sites links after new k s
+      rise true n r it is more same = risen (others n (subst (λ z. last_session p z < n) (sym (no_site (site (k + 1)) r is)) more) same) (owing r n it (no_site (site (k + 1)) r is))
+          (sent (λ (out : Out). IsUnapplied out.2) (λ (l : Letter). IsUnapplied l.message) (λ out h. h) r n it (tt, (λ s. tt))) (sent (λ (out : Out). IsUnread out.2) (λ (l : Letter). IsUnread l.message) (λ out h. h) r n it (tt, (λ s. tt)))
+      rise false n r it is more same = was (record { at = live.at; up = live.up; last = same })
+
+      go : (d : Entry) → e ≡ d → Why w from letter first p d → turn_last (site (k + 1)) (last_session p (site (k + 1))) d ≡ s.session → Was w.sites p q (length p + 1) sites links after new k s
+      go (Up r n) is y same = rise (is_site (site (k + 1)) r) n r is refl y.1 same
+      go other is y same = was (record { at = live.at; up = live.up; last = same })
 
   alike_now : (k : ℕ) → k < w.sites → (x : Item) → AreAlike p q x (link links (k + 2) 1)
   alike_now k low x = all_weaken (λ (l : Letter). ApplySays p (site (k + 1)) l.message) (λ (l : Letter). IsAlike p q x l.message) (link links (k + 2) 1) (λ l r. go l.message r) (mid.applied k low)
@@ -309,7 +327,7 @@ module _ (w : Workload) (sites : List SiteState) (long : length sites ≡ w.site
       go (letters.Apply t n) r = old_number (λ e. holds x (writes_of e)) p e n (numbered h (is_applied t (site (k + 1))) n r).1
       go other r = tt
 
-  only_now : (k : ℕ) → k < w.sites → ApplyOnly (length p + 1) (new k)
+  pub only_now : (k : ℕ) → k < w.sites → ApplyOnly (length p + 1) (new k)
   only_now k low = all_sent (λ (l : Letter). AppliesOnly (length p + 1) l.message) (k + 2) 0 clock outs (all_weaken (λ (out : Out). AppliesOnly (length p + 1) out.2) (λ (out : Out). out.0 ≡ k + 2 → AppliesOnly (length p + 1) out.2) outs (λ out r of. r) (sends_of w q ask (λ (out : Out). AppliesOnly (length p + 1) out.2) e (go e)))
     where
       go : (d : Entry) → SendsOf w q ask (λ (out : Out). AppliesOnly (length p + 1) out.2) d
