@@ -15,7 +15,7 @@ use Rattle.raid_message.specs.declared.letter.Letter.{Letter}
 use Rattle.raid_message.specs.declared.letter.Pick.{Pick}
 use Rattle.raid_serial.proofs.Views.{same_tests}
 use Rattle.raid_steps.specs.State.{Copy, SiteState, Turn}
-use Rattle.raid_steps.specs.Copies.{holds_copy, renewed, set_copy}
+use Rattle.raid_steps.specs.Copies.{holds_copy, renewed}
 use Rattle.raid_steps.specs.Site.{hear_site}
 use Rattle.raid_steps.specs.World.{World, Servers, hear, hear_at, link, take_front, pick, run, open_world, first_site}
 use Rattle.raid_moves.specs.Moves.{Ascend}

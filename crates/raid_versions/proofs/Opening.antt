@@ -1,5 +1,5 @@
 -- The world at the start has the last versions, and a step of the monitor leaves them as they were.
-use Rattle.std.proofs.Common.{◌≡◌, ◌≢◌, inl, ℕ, ℤ, zero, suc, ◌+◌, ◌==◌, true, List, [], ◌∷◌, map, filter, Some, arith, sym, subst, ap, ◌∙◌, refl}
+use Rattle.std.proofs.Common.{◌≡◌, ◌≢◌, inl, ℕ, ℤ, zero, suc, ◌+◌, ◌==◌, true, List, [], ◌∷◌, map, filter, Some, arith, sym, subst, ◌∙◌, refl}
 use Rattle.std.specs.Prelude.{⊤, slice_get, slice_index_or}
 use Rattle.std.specs.List.{AllByRecursion}
 use Rattle.std.proofs.lemmas.Bool.{true≢false}
@@ -15,7 +15,7 @@ use Rattle.raid_message.specs.declared.letter.Message.TheVariants as letters
 use Rattle.raid_message.specs.declared.letter.Letter.{Letter}
 use Rattle.raid_steps.specs.State.{Out, Copy, SiteState}
 use Rattle.raid_steps.specs.Copies.{copy_of}
-use Rattle.raid_steps.specs.World.{World, link, set_link, open_world, first_site, first_letter, first_links}
+use Rattle.raid_steps.specs.World.{link, set_link, open_world, first_links}
 use Rattle.raid_sessions.proofs.Lists.{all_weaken}
 use Rattle.raid_sessions.proofs.Mail.{moved, set_server}
 use Rattle.raid_moves.proofs.Places.{all_found}
