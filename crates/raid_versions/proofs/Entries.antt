@@ -238,7 +238,7 @@ module _ (w : Workload) (sites : List SiteState) (long : length sites ≡ w.site
 
   -- what the entry sends
   new_unread : IsNoRead e → (k : ℕ) → AreUnread (new k)
-  new_unread calm k = all_sent (λ (l : Letter). IsUnread l.message) (k + 2) 0 clock outs (all_weaken (λ (out : Out). IsUnread out.2) (λ (out : Out). out.0 ≡ k + 2 → IsUnread out.2) outs (λ out r of. r) (sends_of w q ask (λ (out : Out). IsUnread out.2) e (go e no)))
+  new_unread calm k = all_sent (λ (l : Letter). IsUnread l.message) (k + 2) 0 clock outs (all_weaken (λ (out : Out). IsUnread out.2) (λ (out : Out). out.0 ≡ k + 2 → IsUnread out.2) outs (λ out r of. r) (sends_of w q ask (λ (out : Out). IsUnread out.2) e (go e calm)))
     where
       go : (d : Entry) → IsNoRead d → SendsOf w q ask (λ (out : Out). IsUnread out.2) d
       go (Read t x s) calm = absurd calm
