@@ -117,9 +117,9 @@ module _ (w : Workload) (sites : List SiteState) (long : length sites ≡ w.site
       | inr o ↦ elim (keeps o.txn o.owed o.wrote) [
         | inl same ↦ inl (same ∙ sym now)
         | inr owed ↦ inr (record {
-            txn = o.txn;
-            wrote = subst (λ n. was_written_by q o.txn x n ≡ true) (sym now) (at_kept (writes_item o.txn x) p e (version p x) o.wrote);
-            owed = owes_now p e here o.txn ∙ ap (λ b. turn_owed here o.txn b e) o.owed ∙ ap (turn_owed here o.txn true) is ∙ owed;
+          txn = o.txn;
+          wrote = subst (λ n. was_written_by q o.txn x n ≡ true) (sym now) (at_kept (writes_item o.txn x) p e (version p x) o.wrote);
+          owed = owes_now p e here o.txn ∙ ap (λ b. turn_owed here o.txn b e) o.owed ∙ ap (turn_owed here o.txn true) is ∙ owed;
         })
       ]
     ]
