@@ -166,11 +166,11 @@ module _ (w : Workload) where
           go false q = h
 
       copies_after : {cs : List Copy} → Renews w own from letter cs → AllByRecursion (CopyOf p) cs
-      copies_after left = all.copies j own at
+      copies_after (left none) = all.copies j own at
       copies_after (applies t number ps m has) = all_mapped (CopyOf p) (CopyOf p) (renewed number ps) own.copies (renewed_of number ps (told_part t number ps m has)) (all.copies j own at)
       copies_after (brings k x v version c m found most) = all_mapped (CopyOf p) (CopyOf p) _ own.copies (set_of x v version (brought k x v version m)) (all.copies j own at)
 
-      own_copy : (x : Item) (c : Copy) → copy_of own x ≡ Some c → CopyOf p c × (c.item ≡ x)
+      pub own_copy : (x : Item) (c : Copy) → copy_of own x ≡ Some c → CopyOf p c × (c.item ≡ x)
       own_copy x c q = (all_found (CopyOf p) (λ (c : Copy). is_item x c.item) own.copies c (all.copies j own at) q, found_item x own.copies c q)
 
       sent_of : (server to : ℕ) (m : Message) → Sent w own from letter server to m → MessageOf p m
