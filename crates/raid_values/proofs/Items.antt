@@ -59,7 +59,7 @@ abbrev AscendItems : List Item → Type 0
 AscendItems [] = Unit {0}
 AscendItems (x ∷ xs) = AreAbove x xs × AscendItems xs
 
-abbrev numbered : List ℕ → List Item
+abbrev pub numbered : List ℕ → List Item
 numbered ks = map (λ k. let x : Item = record { 0 = k } in x) ks
 
 above_from : (x : Item) (a n : ℕ) → x.0 < a → AreAbove x (numbered (count_from a n))
@@ -87,7 +87,7 @@ passes test (x ∷ xs) = go (test x) refl (passes test xs)
     go false q rest = rest
 
 -- what holds of their items holds of copies
-of_items : (P : Item → Type 0) (cs : List Copy) → AllByRecursion P (items_of cs) → AllByRecursion (λ (c : Copy). P c.item) cs
+pub of_items : (P : Item → Type 0) (cs : List Copy) → AllByRecursion P (items_of cs) → AllByRecursion (λ (c : Copy). P c.item) cs
 of_items P [] a = tt
 of_items P (c ∷ cs) a = (a.0, of_items P cs a.1)
 

@@ -6,6 +6,7 @@ pub mod GetsRuns
 pub mod GetsSites
 pub mod GetsWorlds
 pub mod Given
+pub mod Idle
 pub mod Items
 pub mod Pushes
 pub mod Rows
