@@ -60,15 +60,15 @@ module _ (w : Workload) (state : SiteState) (from : ℕ) (letter : Letter) where
 
   -- programs as they were in an earlier turn
   sends : (turn after : Turn SiteState) (new : List Out) → after.state.running ≡ turn.state.running → after.outs ≡ turn.outs ++ new → KnowsAll turn → KnowsAll after
-  sends turn after new same sent all t r number x q f is = subst (Knows t number x) (sym sent) (more t number x turn.outs new (all t r number x q (ap (program_of t) (sym same) ∙ f) is))
+  sends turn after new same told all t r number x q f is = subst (Knows t number x) (sym told) (more t number x turn.outs new (all t r number x q (ap (program_of t) (sym same) ∙ f) is))
 
   -- one is put
   puts : (turn after : Turn SiteState) (now : Running) (new : List Out) → after.state.running ≡ put_running now turn.state.running → after.outs ≡ turn.outs ++ new →
       ((number : ℕ) (x : Item) (q : Option Site) → now.phase ≡ asking number x q → Knows now.txn number x (turn.outs ++ new)) → KnowsAll turn → KnowsAll after
-  puts turn after now new put sent own all t r number x q f is = subst (Knows t number x) (sym sent) (go (now.txn.0 == t.0) refl)
+  puts turn after now new placed told own all t r number x q f is = subst (Knows t number x) (sym told) (go (now.txn.0 == t.0) refl)
     where
       found : program_of t (put_running now turn.state.running) ≡ Some r
-      found = ap (program_of t) (sym put) ∙ f
+      found = ap (program_of t) (sym placed) ∙ f
 
       its : (now.txn.0 == t.0) ≡ true → now.txn ≡ t
       its e = ap (λ n. let u : Txn = record { 0 = n } in u) (eqb-true now.txn.0 t.0 e)

@@ -77,7 +77,7 @@ found_mapped x f keeps (d ∷ cs) c q = go (is_item x d.item) refl (sym (ap (λ 
 along_brought : (w : Workload) (p : List Noted) (a : Ask) (m u v : ℕ) (ls : List Letter) → u < v → was_written p a.item v ≡ true → AreAbove p a.item m v ls → Along (ReadsWhole p a.item m) p a.item m u ls →
     Along (ReadsSeen w p a) p a.item m u ls → Along (ReadsSeen w p a) p a.item m v ls
 along_brought w p a m u v [] less written above whole seen_so = tt
-along_brought w p a m u v (l ∷ ls) less written above whole seen_so = ((λ meant reads. absurd (missed (whole.0 meant (copied l.message reads)))), go (effect p a.item m l))
+along_brought w p a m u v (l ∷ ls) less written above whole seen_so = ((λ meant reads. absurd (missed (whole.0 meant (copied l.message reads)))), go (effect p a.item m l) (along_brought w p a m u v ls less written (above_rest p a.item m v l ls above)))
   where
     copied : (message : Message) → reads_for a message ≡ true → reads_copy a.item message ≡ true
     copied (letters.ReadDo t number x home session) q = (read_parts a t number x home session q).of
@@ -86,11 +86,11 @@ along_brought w p a m u v (l ∷ ls) less written above whole seen_so = ((λ mea
     missed : NoGap p a.item m u ls → ⊥
     missed gap = (let more = above v (or_right (l.to == m && is_apply v l.message) (is_pending m v ls) (gap v written less)) written in omega (arith, more))
 
-    go : Effect p a.item m l → Along (ReadsSeen w p a) p a.item m (after_letter p a.item m v l) ls
-    go (leaves same) =
-        subst (λ z. Along (ReadsSeen w p a) p a.item m z ls) (sym (same v))
-        (along_brought w p a m u v ls less written (above_rest p a.item m v l ls above) (subst (λ z. Along (ReadsWhole p a.item m) p a.item m z ls) (same u) whole.1) (subst (λ z. Along (ReadsSeen w p a) p a.item m z ls) (same u) seen_so.1))
-    go (sets t number meant is written_now set) = subst (λ z. Along (ReadsSeen w p a) p a.item m z ls) (set u ∙ sym (set v)) seen_so.1
+    go : Effect p a.item m l → (Along (ReadsWhole p a.item m) p a.item m u ls → Along (ReadsSeen w p a) p a.item m u ls → Along (ReadsSeen w p a) p a.item m v ls) → Along (ReadsSeen w p a) p a.item m (after_letter p a.item m v l) ls
+    go (leaves still) more =
+        subst (λ z. Along (ReadsSeen w p a) p a.item m z ls) (sym (still v))
+        (more (subst (λ z. Along (ReadsWhole p a.item m) p a.item m z ls) (still u) whole.1) (subst (λ z. Along (ReadsSeen w p a) p a.item m z ls) (still u) seen_so.1))
+    go (sets t number meant is written_now set) more = subst (λ z. Along (ReadsSeen w p a) p a.item m z ls) (set u ∙ sym (set v)) seen_so.1
 
 module _ (w : Workload) (state : World) (landed : Landed w state) (agree : PartsAgree w state) (staged : StagedFirst w state) (copies : AllOf w (noted state.servers.sequencer.history) state.servers.sites state.links)
     (holds : (k : ℕ) (s : SiteState) → slice_get state.servers.sites k ≡ Some s → (x : Item) (c : Copy) → copy_of s x ≡ Some c → is_held w (site (k + 1)) x ≡ true)

@@ -14,8 +14,11 @@ use Rattle.raid_base.specs.Sites.{session, site, all_sites}
 use Rattle.raid_workload.specs.declared.workload.Workload.{Workload}
 use Rattle.raid_workload.specs.Parts.{home, placement}
 use Rattle.raid_rules.specs.Entries.{is_end_of, reads_item}
-use Rattle.raid_rules.specs.History.{noted, add, next, has_ended, version}
-use Rattle.raid_rules.specs.Sessions.{last_session, is_copy_locked, is_site_up}
+use Rattle.raid_rules.specs.History.{noted, add, next, stamp, has_ended, version}
+use Rattle.raid_rules.specs.Sessions.{last_session, is_copy_locked, is_site_up, source_for}
+use Rattle.raid_rules.specs.Verdicts.{reading}
+use Rattle.raid_base.specs.declared.verdict.Verdict.{Verdict}
+use Rattle.raid_base.specs.declared.verdict.Verdict.TheVariants as verdicts
 use Rattle.raid_rules.specs.Sessions as rules
 use Rattle.raid_rules.proofs.Push.{noted_push, same_txn}
 use Rattle.raid_rules.proofs.Sources.{has_kept}
@@ -28,7 +31,11 @@ use Rattle.raid_steps.specs.Copies.{copy_of}
 use Rattle.raid_steps.specs.Programs.{running_of}
 use Rattle.raid_steps.specs.Sequencer.{so_far, place, hear_sequencer}
 use Rattle.raid_steps.specs.World.{World, link}
-use Rattle.raid_placed.specs.Placed.{Placed, Placeable}
+use Rattle.raid_legal.specs.Answers.{served, answer_read}
+use Rattle.raid_legal.specs.Forced.{forced}
+use Rattle.raid_legal.specs.InForce.{verdict}
+use Rattle.raid_legal.proofs.Left.{forced_compels}
+use Rattle.raid_placed.specs.Placed.{Placed, Placeable, Goes}
 use Rattle.raid_placed.proofs.Sent.{placed_push}
 use Rattle.raid_sessions.proofs.Agreed.{told_follows}
 use Rattle.raid_sessions.proofs.Ledger.{session_still}
@@ -40,7 +47,7 @@ use Rattle.raid_asks.proofs.Notes.{all_sent}
 use Rattle.raid_letters.specs.Says.{NoteSays, AskSays, was_applied, is_applied}
 use Rattle.raid_letters.proofs.Later.{Later}
 use Rattle.raid_letters.proofs.Runs.{LetterSays, QueueSays, steps_on}
-use Rattle.raid_letters.proofs.Sends.{read_answers, served_site, source_in}
+use Rattle.raid_letters.proofs.Sends.{first_in}
 use Rattle.raid_layers.specs.Asks.{asks_of, ask_of, OfSequencer, AllTokens, IsBelow, Outstanding, asked, dropped, read, IsAbout, Talks, AskOneThing}
 use Rattle.raid_layers.proofs.Opening.{First, reads, waits, nothing, Chain, done, places, sends, IsLater, Opens, hear_opens}
 use Rattle.raid_layers.proofs.Settled.{Settled, chain_settled, calm_holds}
@@ -48,7 +55,7 @@ use Rattle.raid_layers.proofs.SiteWorlds.{none_there}
 use Rattle.raid_layers.proofs.Tokens.{OnLinks, SentHolds, step_all, all_weaker, asked_home}
 use Rattle.raid_steps.specs.Fits.{knows_site}
 use Rattle.raid_steps.proofs.Parts.{number_known}
-use Rattle.raid_moves.proofs.Places.{all_found}
+use Rattle.raid_moves.proofs.Places.{all_found, something}
 use Rattle.raid_asks.proofs.Least.{Ours}
 use Rattle.raid_staged.proofs.Worlds.{Landed}
 use Rattle.raid_versions.specs.Versions.{was_written, IsVersion, IsLive, LastVersions, Along, after_letter, latest, IsKeptUp}
@@ -67,6 +74,9 @@ earlier_not p q grows test none = go (list_any test p) refl
     go : (b : Bool) → list_any test p ≡ b → b ≡ false
     go true h = absurd (true≢false (sym (grows test h) ∙ none))
     go false h = refl
+
+positive : (n : ℕ) → nat_lt 0 n ≡ true → 0 < n
+positive n e = grind (arith, e)
 
 -- a letter that is answered by the message that it asks for
 own_ask : (t : Txn) (number : ℕ) (x : Item) → ask_of t (letters.ReadAsk t number x) ≡ letters.ReadAsk t number x ∷ []
@@ -118,6 +128,27 @@ module _ (w : Workload) where
     chain_placed a b (places ask e y rest) l = ((placed_push w a.state.history e).0 (chain_placed (place w ask a e) b rest l)).0
     chain_placed a b (sends {next = next} outs same is other rest) l = subst (Placed w) same (chain_placed next b rest l)
 
+  -- the site that is to serve a Read is one of the sources
+  source_in : (found : List Site) (h s : Site) → source_for found h ≡ Some s → has_site found s ≡ true
+  source_in found h s q = go (has_site found h) refl q
+    where
+      go : (b : Bool) → has_site found h ≡ b → (if b then Some h else slice_get found 0) ≡ Some s → has_site found s ≡ true
+      go true e q = subst (λ z. has_site found z ≡ true) (something q) e
+      go false e q = first_in found s q
+
+  served_site : (t : Txn) (x : Item) (o : Option Site) (v : Verdict) (s : Site) → served t x o v ≡ Read t x s → o ≡ Some s
+  served_site t x None v s q = cc q
+  served_site t x (Some r) (verdicts.Reject why) s q = cc q
+  served_site t x (Some r) verdicts.Wait s q = cc q
+  served_site t x (Some r) verdicts.Grant s q = cc q
+
+  read_answers : (p : List Noted) (t : Txn) (x : Item) (s : Site) → Placeable w p (Read t x s) → answer_read w p t x ≡ Read t x s
+  read_answers p t x s goes = go (forced w p) refl goes
+    where
+      go : (o : Option Entry) → forced w p ≡ o → Goes w p (Read t x s) o → answer_read w p t x ≡ Read t x s
+      go None f g = g.1
+      go (Some must) f g = absurd (forced_compels w p (Read t x s) (f ∙ ap Some (sym g)))
+
   -- a Read comes from a source
   record IsFrom (p : List Noted) (x : Item) (s : Site) : Type 0 where
     up : is_site_up (vector w p) s ≡ true
@@ -125,7 +156,7 @@ module _ (w : Workload) where
 
   read_from : (p : List Noted) (t : Txn) (x : Item) (s : Site) → Placeable w p (Read t x s) → IsFrom p x s
   read_from p t x s goes =
-      let has = source_in (sources w p x) (home w t) s (served_site t x _ _ s (read_answers w p t x s goes).1) in
+      let has = source_in (sources w p x) (home w t) s (served_site t x (source_for (sources w p x) (home w t)) (verdict w p (reading t (stamp p t) x)) s (read_answers p t x s goes)) in
       let both = and_parts (rules.is_source w.sites (placement w) p x s) (has_site all_sites s) (sym (has_kept (rules.is_source w.sites (placement w) p x) s all_sites) ∙ has) in
       let last = and_parts (has_site (rules.holders (placement w) x) s && is_site_up (rules.vector w.sites p) s) (not (is_copy_locked p s x)) both.0 in
       record { up = (and_parts (has_site (rules.holders (placement w) x) s) (is_site_up (rules.vector w.sites p) s) last.0).1; unlocked = untrue (is_copy_locked p s x) last.1 }
@@ -300,7 +331,7 @@ module _ (w : Workload) where
         old : IsAnsweredBySeen w p sites state.links a
         old = gets k s r number x o live f is alive
 
-        asks : List Message
+        abbrev asks : List Message
         asks = asks_of r.txn (link state.links 1 (k + 2))
 
         stands : Outstanding p state.links k s.session r.txn number x o asks
@@ -334,121 +365,126 @@ module _ (w : Workload) where
             go (dropped e n toks) = absurd (let none = sym asks_are ∙ e in cc none)
             go (read n z e l there has toks server falls) = absurd (let none = sym asks_are ∙ e in cc none)
 
+        -- what the later part of the step sends has nothing read for it
+        module _ (first : Turn Sequencer) (chain : Chain w from letter first now) where
+          rest_of : (outs : List Out) × ((now.outs ≡ first.outs ++ outs) × Settled w from letter (so_far first) q outs)
+          rest_of = chain_settled w from letter first now chain
+
+          none_later : NoneSent a rest_of.0
+          none_later = calm_none a rest_of.0 (calm_holds r.txn k s.session (IsNot number) (so_far first) q rest_of.0 rest_of.1.1.calm)
+
+          -- nothing is read for it in the first part either
+          unread : seen w (so_far first) r.txn x ≡ seen w p r.txn x → NoneSent a first.outs → IsAnsweredBySeen w q sites after a
+          unread same none =
+              answered a old (inl (chain_sees from letter first now chain r.txn x ∙ same))
+              (λ j z c there has v eq. along_none w q q a x z.session v (letters_to (j + 2) 0 clock now.outs)
+              (none_to a j now.outs (subst (NoneSent a) (sym rest_of.1.0) (all_append (λ (out : Out). reads_for a out.2 ≡ true → ⊥) first.outs rest_of.0 none none_later))))
+
+        -- a Read
+        module _ (j : ℕ) (u : Txn) (ask : ℕ) (y : Item) (from_site : Site) (of : from ≡ j + 2) (message : letter.message ≡ letters.ReadAsk u ask y)
+            (chain : Chain w from letter (place w ask (opened state.servers.sequencer) (Read u y from_site)) now) where
+          abbrev h : List Entry
+          h = state.servers.sequencer.history
+
+          abbrev first : Turn Sequencer
+          first = place w ask (opened state.servers.sequencer) (Read u y from_site)
+
+          abbrev v_now : List ℕ
+          v_now = vector w (noted (state.servers.sequencer.history ++ Read u y from_site ∷ []))
+
+          abbrev reads_out : Out
+          reads_out = to_site v_now from_site (letters.ReadDo u ask y (home w u) (session v_now (home w u)))
+
+          abbrev others : List Out
+          others = if is_site from_site (home w u) then [] else to_site v_now (home w u) (letters.Serving u ask from_site) ∷ []
+
+          none_others : NoneSent a others
+          none_others = by (is_site from_site (home w u))
+            where
+              by : (b : Bool) → NoneSent a (if b then [] else to_site v_now (home w u) (letters.Serving u ask from_site) ∷ [])
+              by true = tt
+              by false = ((λ q. true≢false (sym q)), tt)
+
+          seen_first : seen w (so_far first) r.txn x ≡ (if is_txn r.txn u && is_item x y then Some (value_of w p x) else seen w p r.txn x)
+          seen_first = ap (λ z. seen w z r.txn x) (noted_push h (Read u y from_site)) ∙ seen_push w p (Read u y from_site) r.txn x
+
+          -- of the program's own
+          module _ (same : u ≡ r.txn) (mine : is_txn r.txn u ≡ true) where
+            message_is : letter.message ≡ letters.ReadAsk r.txn ask y
+            message_is = message ∙ ap (λ z. letters.ReadAsk z ask y) same
+
+            its : (ask ≡ number) × ((y ≡ x) × AllTokens state.links r.txn k s.session (IsNot number))
+            its = its_ask ask y (comes_home j ask y of message_is) message_is
+
+            is_read : (is_txn r.txn u && is_item x y) ≡ true
+            is_read = and_from (is_txn r.txn u) (is_item x y) mine (is_same y.0 x.0 (ap (λ (i : Item). i.0) its.1.0))
+
+            seen_now : seen w q r.txn x ≡ Some (value_of w p x)
+            seen_now = chain_sees from letter first now chain r.txn x ∙ seen_first ∙ ap (λ b. if b then Some (value_of w p x) else seen w p r.txn x) is_read
+
+            source : IsFrom p x from_site
+            source = subst (λ z. IsFrom p z from_site) its.1.0 (read_from p u y from_site ((placed_push w h (Read u y from_site)).0 (chain_placed from letter first now chain placed_after)).1)
+
+            -- where it is meant for a live site, that was live before, and its copy has the last version there
+            module _ (i : ℕ) (z : SiteState) (c : Copy) (there : IsLive q sites i z) (has : copy_of z x ≡ Some c) (v : ℕ) (eq : IsLive p sites i z → v ≡ latest p x z.session c.version (link state.links (i + 2) 1)) where
+              claimed : from_site.0 + 1 ≡ i + 2 → (session v_now from_site == z.session) ≡ true → seen w q r.txn x ≡ Some (committed_value w q x v)
+              claimed to meant = seen_now ∙ ap Some (sym (ap (committed_value w q x) (eq live_there ∙ current) ∙ on.values x (version p x) (version_within w x h) ∙ version_value w x h))
+                where
+                  here : from_site ≡ site (i + 1)
+                  here = ap (λ n. let z : Site = record { 0 = n } in z) (let e : from_site.0 ≡ i + 1 = omega (arith, to) in e)
+
+                  now_is : session (vector w p) (site (i + 1)) ≡ z.session
+                  now_is = ap (session (vector w p)) (sym here) ∙ sym (session_still w h (Read u y from_site) from_site refl) ∙ eqb-true (session v_now from_site) z.session meant
+
+                  is_up : 0 < session (vector w p) (site (i + 1))
+                  is_up = positive (session (vector w p) (site (i + 1))) (subst (λ z. is_site_up (vector w p) z ≡ true) here source.up)
+
+                  last_is : last_session p (site (i + 1)) ≡ z.session
+                  last_is = elim (landed.says.reached.ledger.accounts (site (i + 1)) (known_place i z there.at)).gone [
+                    | inl gone ↦ absurd (let none = gone.0 in let up = is_up in omega (arith, none, up))
+                    | inr up ↦ sym up.0 ∙ now_is
+                  ]
+
+                  live_there : IsLive p sites i z
+                  live_there = record { at = there.at; up = there.up; last = last_is }
+
+                  current : latest p x z.session c.version (link state.links (i + 2) 1) ≡ version p x
+                  current = (versions.kept i z live_there x c has).current (subst (λ z. is_copy_locked p z x ≡ false) here source.unlocked)
+
+              none_behind : NoneReads a (letters_to (i + 2) 0 clock (others ++ (rest_of first chain).0))
+              none_behind = none_to a i (others ++ (rest_of first chain).0) (all_append (λ (out : Out). reads_for a out.2 ≡ true → ⊥) others (rest_of first chain).0 none_others (none_later first chain))
+
+              by_site : (b : Bool) → (from_site.0 + 1 == i + 2) ≡ b →
+                  Along (ReadsSeen w q a) q x z.session v (if b then letter_of 0 clock reads_out ∷ letters_to (i + 2) 0 clock (others ++ (rest_of first chain).0) else letters_to (i + 2) 0 clock (others ++ (rest_of first chain).0))
+              by_site true e = (
+                (λ meant reads. claimed (eqb-true (from_site.0 + 1) (i + 2) e) meant),
+                along_none w q q a x z.session (after_letter q x z.session v (letter_of 0 clock reads_out)) (letters_to (i + 2) 0 clock (others ++ (rest_of first chain).0)) none_behind,
+              )
+              by_site false e = along_none w q q a x z.session v (letters_to (i + 2) 0 clock (others ++ (rest_of first chain).0)) none_behind
+
+              new : Along (ReadsSeen w q a) q x z.session v (letters_to (i + 2) 0 clock now.outs)
+              new = subst (λ outs. Along (ReadsSeen w q a) q x z.session v (letters_to (i + 2) 0 clock outs)) (sym (rest_of first chain).1.0) (by_site (from_site.0 + 1 == i + 2) refl)
+
+          was_read : IsAnsweredBySeen w q sites after a
+          was_read = by_txn (is_txn r.txn u) refl
+            where
+              by_txn : (b : Bool) → is_txn r.txn u ≡ b → IsAnsweredBySeen w q sites after a
+              by_txn true mine = answered a old (inr (its (same_txn u r.txn mine) mine).1.1) (λ i z c there has v eq. new (same_txn u r.txn mine) mine i z c there has v eq)
+              by_txn false other =
+                  unread first chain (seen_first ∙ ap (λ b. if b && is_item x y then Some (value_of w p x) else seen w p r.txn x) other)
+                  ((λ e. true≢false (sym (read_parts a u ask y (home w u) (session v_now (home w u)) e).own ∙ other)), none_others)
+
         pub gets_after : IsAnsweredBySeen w q sites after a
         gets_after = go (hear_opens w from letter state.servers.sequencer from refl)
           where
+            begun : (first : Turn Sequencer) → First w from letter (opened state.servers.sequencer) first → Chain w from letter first now → IsAnsweredBySeen w q sites after a
+            begun f nothing chain = unread (opened state.servers.sequencer) chain refl tt
+            begun f (waits j u request of message) chain =
+                unread (place w 0 (opened state.servers.sequencer) (Wait u request)) chain (ap (λ h. seen w h r.txn x) (noted_push state.servers.sequencer.history (Wait u request)) ∙ seen_push w p (Wait u request) r.txn x) tt
+            begun f (reads j u ask y from_site of message) chain = was_read j u ask y from_site of message chain
+
             go : Opens w from letter (opened state.servers.sequencer) now → IsAnsweredBySeen w q sites after a
-            go (first, (one, chain)) = begun one
-              where
-                rest_of : (outs : List Out) × ((now.outs ≡ first.outs ++ outs) × Settled w from letter (so_far first) q outs)
-                rest_of = chain_settled w from letter first now chain
-
-                none_later : NoneSent a rest_of.0
-                none_later = calm_none a rest_of.0 (calm_holds r.txn k s.session (IsNot number) (so_far first) q rest_of.0 rest_of.1.1.calm)
-
-                -- nothing is read for it
-                unread : seen w (so_far first) r.txn x ≡ seen w p r.txn x → NoneSent a first.outs → IsAnsweredBySeen w q sites after a
-                unread same none =
-                    answered a old (inl (chain_sees from letter first now chain r.txn x ∙ same))
-                    (λ j z c there has v eq. along_none w q q a x z.session v (letters_to (j + 2) 0 clock now.outs)
-                    (none_to a j now.outs (subst (NoneSent a) (sym rest_of.1.0) (all_append (λ (out : Out). reads_for a out.2 ≡ true → ⊥) first.outs rest_of.0 none none_later))))
-
-                begun : First w from letter (opened state.servers.sequencer) first → IsAnsweredBySeen w q sites after a
-                begun nothing = unread refl tt
-                begun (waits j u request of message) = unread (ap (λ h. seen w h r.txn x) (noted_push state.servers.sequencer.history (Wait u request)) ∙ seen_push w p (Wait u request) r.txn x) tt
-                begun (reads j u ask y from_site of message) = by_txn (is_txn r.txn u) refl
-                  where
-                    h : List Entry
-                    h = state.servers.sequencer.history
-
-                    v_now : List ℕ
-                    v_now = vector w (noted (h ++ Read u y from_site ∷ []))
-
-                    reads_out : Out
-                    reads_out = to_site v_now from_site (letters.ReadDo u ask y (home w u) (session v_now (home w u)))
-
-                    others : List Out
-                    others = if is_site from_site (home w u) then [] else to_site v_now (home w u) (letters.Serving u ask from_site) ∷ []
-
-                    none_others : NoneSent a others
-                    none_others = by (is_site from_site (home w u))
-                      where
-                        by : (b : Bool) → NoneSent a (if b then [] else to_site v_now (home w u) (letters.Serving u ask from_site) ∷ [])
-                        by true = tt
-                        by false = ((λ q. true≢false (sym q)), tt)
-
-                    seen_first : seen w (so_far first) r.txn x ≡ (if is_txn r.txn u && is_item x y then Some (value_of w p x) else seen w p r.txn x)
-                    seen_first = ap (λ z. seen w z r.txn x) (noted_push h (Read u y from_site)) ∙ seen_push w p (Read u y from_site) r.txn x
-
-                    ours : u ≡ r.txn → is_txn r.txn u ≡ true → IsAnsweredBySeen w q sites after a
-                    ours same mine = answered a old (inr its.1.1) new
-                      where
-                        message_is : letter.message ≡ letters.ReadAsk r.txn ask y
-                        message_is = message ∙ ap (λ z. letters.ReadAsk z ask y) same
-
-                        its : (ask ≡ number) × ((y ≡ x) × AllTokens state.links r.txn k s.session (IsNot number))
-                        its = its_ask ask y (comes_home j ask y of message_is) message_is
-
-                        is_read : (is_txn r.txn u && is_item x y) ≡ true
-                        is_read = and_from (is_txn r.txn u) (is_item x y) mine (is_same y.0 x.0 (ap (λ (i : Item). i.0) its.1.0))
-
-                        seen_now : seen w q r.txn x ≡ Some (value_of w p x)
-                        seen_now = chain_sees from letter first now chain r.txn x ∙ seen_first ∙ ap (λ b. if b then Some (value_of w p x) else seen w p r.txn x) is_read
-
-                        source : IsFrom p x from_site
-                        source = subst (λ z. IsFrom p z from_site) its.1.0 (read_from p u y from_site ((placed_push w h (Read u y from_site)).0 (chain_placed from letter first now chain placed_after)).1)
-
-                        -- where it is meant for a live site, that was live before, and its copy has the last version there
-                        claimed : (i : ℕ) (z : SiteState) (c : Copy) → IsLive q sites i z → copy_of z x ≡ Some c → (v : ℕ) → (IsLive p sites i z → v ≡ latest p x z.session c.version (link state.links (i + 2) 1)) →
-                            from_site.0 + 1 ≡ i + 2 → (session v_now from_site == z.session) ≡ true → seen w q r.txn x ≡ Some (committed_value w q x v)
-                        claimed i z c there has v eq to meant =
-                            seen_now ∙ ap Some (sym (ap (committed_value w q x) (eq live_there ∙ current) ∙ on.values x (version p x) (version_within w x h) ∙ version_value w x h))
-                          where
-                            here : from_site ≡ site (i + 1)
-                            here = ap (λ n. let z : Site = record { 0 = n } in z) (let e : from_site.0 ≡ i + 1 = omega (arith, to) in e)
-
-                            now_is : session (vector w p) (site (i + 1)) ≡ z.session
-                            now_is = ap (session (vector w p)) (sym here) ∙ sym (session_still w h (Read u y from_site) from_site refl) ∙ eqb-true (session v_now from_site) z.session meant
-
-                            is_up : 0 < session (vector w p) (site (i + 1))
-                            is_up = positive (session (vector w p) (site (i + 1))) (subst (λ z. is_site_up (vector w p) z ≡ true) here source.up)
-                              where
-                                positive : (n : ℕ) → nat_lt 0 n ≡ true → 0 < n
-                                positive n e = grind (arith, e)
-
-                            last_is : last_session p (site (i + 1)) ≡ z.session
-                            last_is = elim (landed.says.reached.ledger.accounts (site (i + 1)) (known_place i z there.at)).gone [
-                              | inl gone ↦ absurd (let none = gone.0 in let up = is_up in omega (arith, none, up))
-                              | inr up ↦ sym up.0 ∙ now_is
-                            ]
-
-                            live_there : IsLive p sites i z
-                            live_there = record { at = there.at; up = there.up; last = last_is }
-
-                            current : latest p x z.session c.version (link state.links (i + 2) 1) ≡ version p x
-                            current = (versions.kept i z live_there x c has).current (subst (λ z. is_copy_locked p z x ≡ false) here source.unlocked)
-
-                        new : (i : ℕ) (z : SiteState) (c : Copy) → IsLive q sites i z → copy_of z x ≡ Some c → (v : ℕ) → (IsLive p sites i z → v ≡ latest p x z.session c.version (link state.links (i + 2) 1)) →
-                            Along (ReadsSeen w q a) q x z.session v (letters_to (i + 2) 0 clock now.outs)
-                        new i z c there has v eq = subst (λ outs. Along (ReadsSeen w q a) q x z.session v (letters_to (i + 2) 0 clock outs)) (sym rest_of.1.0) (by_site (from_site.0 + 1 == i + 2) refl)
-                          where
-                            behind : List Out
-                            behind = others ++ rest_of.0
-
-                            none_behind : NoneReads a (letters_to (i + 2) 0 clock behind)
-                            none_behind = none_to a i behind (all_append (λ (out : Out). reads_for a out.2 ≡ true → ⊥) others rest_of.0 none_others none_later)
-
-                            by_site : (b : Bool) → (from_site.0 + 1 == i + 2) ≡ b → Along (ReadsSeen w q a) q x z.session v (if b then letter_of 0 clock reads_out ∷ letters_to (i + 2) 0 clock behind else letters_to (i + 2) 0 clock behind)
-                            by_site true e = (
-                              (λ meant reads. claimed i z c there has v eq (eqb-true (from_site.0 + 1) (i + 2) e) meant),
-                              along_none w q q a x z.session (after_letter q x z.session v (letter_of 0 clock reads_out)) (letters_to (i + 2) 0 clock behind) none_behind,
-                            )
-                            by_site false e = along_none w q q a x z.session v (letters_to (i + 2) 0 clock behind) none_behind
-
-                    by_txn : (b : Bool) → is_txn r.txn u ≡ b → IsAnsweredBySeen w q sites after a
-                    by_txn true mine = ours (same_txn r.txn u mine) mine
-                    by_txn false other = unread (seen_first ∙ ap (λ b. if b && is_item x y then Some (value_of w p x) else seen w p r.txn x) other)
-                        ((λ e. true≢false (sym (read_parts a u ask y (home w u) (session v_now (home w u)) e).own ∙ other)), none_others)
+            go (first, (one, chain)) = begun first one chain
 
       pub sequencer_gets : GetWhatTheySaw w (noted (hear_sequencer w state.servers.sequencer from letter).state.history) state.servers.sites (moved state.links 1 from 0 clock rest (hear_sequencer w state.servers.sequencer from letter).outs)
       sequencer_gets k s r number x o live f is alive = gets_after k s r number x o live f is alive

@@ -65,11 +65,11 @@ each_mapped P f (x ∷ xs) a = (a.0, each_mapped P f xs a.1)
 -- the value told of an item is that of the first pair
 told_first : (f : Item → ℤ) (x : Item) (a n : ℕ) → a ≤ x.0 → x.0 < a + n → first_of x (map (λ (y : Item). (y, f y)) (numbered (count_from a n))) ≡ Some (f x)
 told_first f x a zero low high = absurd (omega (arith, low, high))
-told_first f x a (suc n) low high = go (a == x.0) refl
+told_first f x a (suc n) low high = go (a == x.0) refl (λ more. told_first f x (a + 1) n more (omega (arith, high)))
   where
-    go : (b : Bool) → (a == x.0) ≡ b → (if b then Some (f (record { 0 = a })) else first_of x (map (λ (y : Item). (y, f y)) (numbered (count_from (a + 1) n)))) ≡ Some (f x)
-    go true q = ap (λ k. Some (f (let y : Item = record { 0 = k } in y))) (eqb-true a x.0 q)
-    go false q = told_first f x (a + 1) n (above a x.0 q low) (omega (arith, high))
+    go : (b : Bool) → (a == x.0) ≡ b → (a + 1 ≤ x.0 → first_of x (map (λ (y : Item). (y, f y)) (numbered (count_from (a + 1) n))) ≡ Some (f x)) → (if b then Some (f (record { 0 = a })) else first_of x (map (λ (y : Item). (y, f y)) (numbered (count_from (a + 1) n)))) ≡ Some (f x)
+    go true q rest = ap (λ k. Some (f (let y : Item = record { 0 = k } in y))) (eqb-true a x.0 q)
+    go false q rest = rest (above a x.0 q low)
       where
         above : (a b : ℕ) → (a == b) ≡ false → a ≤ b → a + 1 ≤ b
         above a b q low = grind (arith, q, low)
@@ -137,12 +137,12 @@ module _ (w : Workload) (versions : (schedule : List Pick) → HaveLastVersions 
   all_get : (k : ℕ) (s : SiteState) → AllByRecursion (Gets k s) s.copies
   all_get k s = all_given (λ (live : IsLive p now.servers.sites k s) (c : Copy). is_copy_locked p (site (k + 1)) c.item ≡ false → IsCurrentIn w p (after_all s c (link now.links (k + 2) 1))) s.copies (become_current w versions schedule k s)
 
+  abbrev Told : Copy → Type 0
+  Told c = first_of c.item finals ≡ Some (value_of w p c.item)
+
   pub idle_current : Each (IsCurrent w (noted (report w (run w schedule).servers).entries) (report w (run w schedule).servers).finals) (report w (run w schedule).servers).copies
   idle_current = each_flat (IsCurrent w p finals) copy_lines now.servers.sites lines
     where
-      abbrev Told : Copy → Type 0
-      Told c = first_of c.item finals ≡ Some (value_of w p c.item)
-
       lines : (k : ℕ) (s : SiteState) → slice_get now.servers.sites k ≡ Some s → Each (IsCurrent w p finals) (copy_lines s)
       lines k s at =
           subst (λ r. Each (IsCurrent w p finals) (map (λ (c : Copy). let l : CopyLine = record { site = r; item = c.item; value = c.value; version = c.version } in l) s.copies)) (sym ((landed w schedule).says.homes k s at).place)

@@ -121,12 +121,12 @@ module _ (w : Workload) where
 
   hear_items : (state : World) → ((k : ℕ) (s : SiteState) → slice_get state.servers.sites k ≡ Some s → Ascend s.running) → At state → (server from : ℕ) (l : Letter) →
       (k : ℕ) (s : SiteState) → slice_get (hear w state.servers server from l).0.sites k ≡ Some s → items_of s.copies ≡ held_items k
-  hear_items state ascends all zero from l = all
-  hear_items state ascends all (suc zero) from l = all
-  hear_items state ascends all (suc (suc j)) from l = go (slice_get state.servers.sites j) refl
+  hear_items state ascends all zero from l k s there = all k s there
+  hear_items state ascends all (suc zero) from l k s there = all k s there
+  hear_items state ascends all (suc (suc j)) from l k s there = go (slice_get state.servers.sites j) refl k s there
     where
       go : (o : Option SiteState) → slice_get state.servers.sites j ≡ o → (k : ℕ) (s : SiteState) → slice_get (hear_at w state.servers j from l o).0.sites k ≡ Some s → items_of s.copies ≡ held_items k
-      go None none = all
+      go None none k s there = all k s there
       go (Some own) at k s there = by (same_or_not k j)
         where
           by : (k ≡ j) ⊎ (k ≢ j) → items_of s.copies ≡ held_items k

@@ -48,17 +48,17 @@ module _ (w : Workload) (state : SiteState) (from : ℕ) (letter : Letter) where
   idle_other : Idle w state from letter → NoApply
   idle_other (parts.down k d f) t number m = true≢false (sym m.heard.up ∙ d)
   idle_other (parts.stays_down d f n) t number m = true≢false (sym m.heard.up ∙ d)
-  idle_other (parts.stays_up u f n) = monitor_other f
+  idle_other (parts.stays_up u f n) t number m = monitor_other f t number m
   idle_other (parts.late u f n) t number m = true≢false (sym m.heard.meant ∙ n)
-  idle_other (parts.late_peer k u f n s) = said_other k f
+  idle_other (parts.late_peer k u f n s) t number m = said_other k f t number m
   idle_other (parts.unfit h f bad) t number m = true≢false (sym m.fits ∙ subst (λ z. (is_of_sequencer w z && fits_here w state z) ≡ false) m.is bad)
-  idle_other (parts.unfit_peer k h f bad) = said_other k f
-  idle_other (parts.unasked t k v g n) = given_other t k v g
-  idle_other (parts.unserved t k s m n) = told_other (letters.Serving t k s) tt m
-  idle_other (parts.refused k t a b m) = said_other k m.by
-  idle_other (parts.outdated k t m n) = said_other k m.by
-  idle_other (parts.uncounted k t m n) = said_other k m.by
-  idle_other (parts.older k x v version c m q l) = said_other k m.by
+  idle_other (parts.unfit_peer k h f bad) t number m = said_other k f t number m
+  idle_other (parts.unasked u k v g n) t number m = given_other u k v g t number m
+  idle_other (parts.unserved u k s told n) t number m = told_other (letters.Serving u k s) tt told t number m
+  idle_other (parts.refused k u a b said) t number m = said_other k said.by t number m
+  idle_other (parts.outdated k u said n) t number m = said_other k said.by t number m
+  idle_other (parts.uncounted k u said n) t number m = said_other k said.by t number m
+  idle_other (parts.older k x v version c said q l) t number m = said_other k said.by t number m
 
   -- the copies after a step: as they were, or with what was staged of a Commit, or with one that another site has sent
   pub data Renews : List Copy → Type 0 where
@@ -90,7 +90,7 @@ module _ (w : Workload) (state : SiteState) (from : ℕ) (letter : Letter) where
   step_renews a = go (site_moves w state from letter a)
     where
       go : Reached w state from letter (hear_site w state from letter) → Renews (hear_site w state from letter).state.copies
-      go (after, (row, moves)) = subst Renews (sym (moves_leave w state from letter moves).copies) (row_renews row)
+      go (after, (row, chain)) = subst Renews (sym (moves_leave w state from letter chain).copies) (row_renews row)
 
   -- a copy that is sent is the site's own, which the sequencer has told it to send
   pub record SendsCopy (x : Item) (v : ℤ) (version : ℕ) : Type 0 where
