@@ -77,28 +77,28 @@ module _ (w : Workload) where
 
   module _ (from : ℕ) (letter : Letter) (first : List Noted) where
     -- one entry
+    abbrev Falls : List Noted → Site → ℕ → ℕ → Type 0
+    Falls p s now last = (last_session p s ≤ last) × (session (vector w p) s ≡ 0 → ((now ≡ 0) × (last ≡ last_session p s)) ⊎ (last_session p s < last))
+
     one_fall : (p : List Noted) (e : Entry) → length (vector w p) ≡ w.sites → Why w from letter first p e → (s : Site) → knows_site w s ≡ true → Fall p (add p e) s
     one_fall p e sized why s known =
         subst (λ z. (last_session p s ≤ z) × (session (vector w p) s ≡ 0 → ((session (vector w (add p e)) s ≡ 0) × (z ≡ last_session p s)) ⊎ (last_session p s < z))) (sym (last_push p e s))
         (subst (λ (v : List ℕ). (last_session p s ≤ turn_last s (last_session p s) e) × (session (vector w p) s ≡ 0 → ((session v s ≡ 0) × (turn_last s (last_session p s) e ≡ last_session p s)) ⊎ (last_session p s < turn_last s (last_session p s) e))) (sym (vector_push w.sites p (next p e))) (go e why))
       where
-        abbrev Falls : ℕ → ℕ → Type 0
-        Falls now last = (last_session p s ≤ last) × (session (vector w p) s ≡ 0 → ((now ≡ 0) × (last ≡ last_session p s)) ⊎ (last_session p s < last))
-
-        down : (b : Bool) → Falls (if b then 0 else session (vector w p) s) (last_session p s)
+        down : (b : Bool) → Falls p s (if b then 0 else session (vector w p) s) (last_session p s)
         down true = (omega arith, (λ none. inl (refl, refl)))
         down false = (omega arith, (λ none. inl (none, refl)))
 
         same_site : (a b : Site) → is_site a b ≡ true → a ≡ b
         same_site a b r = ap (λ n. let z : Site = record { 0 = n } in z) (sym (eqb-true b.0 a.0 r))
 
-        up : (b : Bool) (n : ℕ) (r : Site) → is_site s r ≡ b → last_session p r < n → Falls (if b then n else session (vector w p) s) (if b then n else last_session p s)
+        up : (b : Bool) (n : ℕ) (r : Site) → is_site s r ≡ b → last_session p r < n → Falls p s (if b then n else session (vector w p) s) (if b then n else last_session p s)
         up true n r is more = (let same = ap (last_session p) (same_site s r is) in (omega (arith, same, more), (λ none. inr (omega (arith, same, more)))))
         up false n r is more = (omega arith, (λ none. inl (none, refl)))
 
-        go : (e : Entry) → Why w from letter first p e → Falls (session (turn_vector (vector w p) e) s) (turn_last s (last_session p s) e)
-        go (Down r) y = subst (λ z. Falls z (last_session p s)) (sym (session_set w (vector w p) r s 0 sized y known)) (down (is_site s r))
-        go (Up r n) y = subst (λ z. Falls z (if is_site s r then n else last_session p s)) (sym (session_set w (vector w p) r s n sized y.0 known)) (up (is_site s r) n r refl y.1)
+        go : (e : Entry) → Why w from letter first p e → Falls p s (session (turn_vector (vector w p) e) s) (turn_last s (last_session p s) e)
+        go (Down r) y = subst (λ z. Falls p s z (last_session p s)) (sym (session_set w (vector w p) r s 0 sized y known)) (down (is_site s r))
+        go (Up r n) y = subst (λ z. Falls p s z (if is_site s r then n else last_session p s)) (sym (session_set w (vector w p) r s n sized y.0 known)) (up (is_site s r) n r refl y.1)
         go other y = (omega arith, (λ none. inl (none, refl)))
 
     sized_push : (p : List Noted) (e : Entry) → length (vector w p) ≡ w.sites → length (vector w (add p e)) ≡ w.sites
@@ -151,9 +151,6 @@ module _ (w : Workload) where
         where
           h : List Entry
           h = a.state.history
-
-          abbrev then_ : List Noted
-          then_ = add (so_far a) e
 
           fall_after : (s : Site) → knows_site w s ≡ true → Fall (add (so_far a) e) (so_far b) s
           fall_after s known = subst (λ z. Fall z (so_far b) s) (noted_push h e) (steps_fall (place w ask a e) b rest (subst (λ z. length (vector w z) ≡ w.sites) (sym (noted_push h e)) (sized_push (so_far a) e mid.vectors)) s known)

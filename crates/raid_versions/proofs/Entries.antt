@@ -238,28 +238,26 @@ module _ (w : Workload) (sites : List SiteState) (long : length sites ≡ w.site
 
   -- what the entry sends
   new_unread : IsNoRead e → (k : ℕ) → AreUnread (new k)
-  new_unread no k = all_sent (λ (l : Letter). IsUnread l.message) (k + 2) 0 clock outs (all_weaken (λ (out : Out). IsUnread out.2) (λ (out : Out). out.0 ≡ k + 2 → IsUnread out.2) outs (λ out r of. r) (sends_of w q ask (λ (out : Out). IsUnread out.2) e (go e no)))
+  new_unread calm k = all_sent (λ (l : Letter). IsUnread l.message) (k + 2) 0 clock outs (all_weaken (λ (out : Out). IsUnread out.2) (λ (out : Out). out.0 ≡ k + 2 → IsUnread out.2) outs (λ out r of. r) (sends_of w q ask (λ (out : Out). IsUnread out.2) e (go e calm)))
     where
       go : (d : Entry) → IsNoRead d → SendsOf w q ask (λ (out : Out). IsUnread out.2) d
-      go (Read t x s) no = absurd no
-      go (Commit t r applied) no = λ s. ((λ there. tt), tt)
-      go (Abort t cause act) no = λ s. tt
-      go (Down r) no = λ s. tt
-      go (Up r n) no = (tt, (λ s. tt))
-      go other no = tt
+      go (Read t x s) calm = absurd calm
+      go (Commit t r applied) calm = λ s. ((λ there. tt), tt)
+      go (Abort t cause act) calm = λ s. tt
+      go (Down r) calm = λ s. tt
+      go (Up r n) calm = (tt, (λ s. tt))
+      go other calm = tt
 
-  new_unsent : (k : ℕ) (x : Item) → AllByRecursion (λ (l : Letter). (v : ℕ) (behind : List Letter) → Sends q sites (after w sites long from letter first h links clock ask e mid goes why) x v l.message behind) (new k)
-  new_unsent k x =
-      all_sent (λ (l : Letter). (v : ℕ) (behind : List Letter) → Sends q sites now x v l.message behind) (k + 2) 0 clock outs
-      (all_weaken IsUnsent (λ (out : Out). out.0 ≡ k + 2 → (v : ℕ) (behind : List Letter) → Sends q sites now x v out.2 behind) outs (λ out r of. r) (sends_of w q ask IsUnsent e (go e)))
+  abbrev later : List (List (List Letter))
+  later = after w sites long from letter first h links clock ask e mid goes why
+
+  abbrev IsUnsent : Item → Message → Type 0
+  IsUnsent x message = (v : ℕ) (behind : List Letter) → Sends (add (noted h) e) sites (after w sites long from letter first h links clock ask e mid goes why) x v message behind
+
+  new_unsent : (k : ℕ) (x : Item) → AllByRecursion (λ (l : Letter). IsUnsent x l.message) (new k)
+  new_unsent k x = all_sent (λ (l : Letter). IsUnsent x l.message) (k + 2) 0 clock outs (all_weaken (λ (out : Out). IsUnsent x out.2) (λ (out : Out). out.0 ≡ k + 2 → IsUnsent x out.2) outs (λ out r of. r) (sends_of w q ask (λ (out : Out). IsUnsent x out.2) e (go e)))
     where
-      abbrev now : List (List (List Letter))
-      now = after w sites long from letter first h links clock ask e mid goes why
-
-      abbrev IsUnsent : Out → Type 0
-      IsUnsent out = (v : ℕ) (behind : List Letter) → Sends q sites now x v out.2 behind
-
-      go : (d : Entry) → SendsOf w q ask IsUnsent d
+      go : (d : Entry) → SendsOf w q ask (λ (out : Out). IsUnsent x out.2) d
       go (Read t y s) = ((λ v behind. tt), (λ v behind. tt))
       go (Commit t r applied) = λ s. ((λ there v behind. tt), (λ v behind. tt))
       go (Abort t cause act) = λ s v behind. tt
@@ -306,9 +304,12 @@ module _ (w : Workload) (sites : List SiteState) (long : length sites ≡ w.site
       as_locked lock whole = with_locks (λ free. old.current (sym lock ∙ free)) (λ locked. old.locked (sym lock ∙ locked)) whole
 
     none_read : IsNoRead e → (v : ℕ) → Along (ReadsWhole q x s.session) q x s.session v (new k)
-    none_read no v = along_unread (ReadsWhole q x s.session) (λ z message behind u r. absurd (true≢false (sym r ∙ unread x message u))) q x s.session v (new k) (new_unread no k)
+    none_read calm v = along_unread (ReadsWhole q x s.session) (λ z message behind u r. absurd (true≢false (sym r ∙ unread x message u))) q x s.session v (new k) (new_unread calm k)
 
     -- a Read
+    abbrev IsFull : Out → Type 0
+    IsFull out = out.0 ≡ k + 2 → (behind : List Letter) → ReadsWhole (add (noted h) e) x s.session (latest (add (noted h) e) x s.session c.version (link links (k + 2) 1)) out.2 behind
+
     reading : (t : Txn) (y : Item) (r : Site) → e ≡ Read t y r → IsKeptUp q (site (k + 1)) x s.session c.version (notes k ++ new k)
     reading t y r is = as_locked none lock (along_each (ReadsWhole q x s.session) q x s.session (latest q x s.session c.version (notes k)) (new k) unapplied whole)
       where
@@ -332,9 +333,6 @@ module _ (w : Workload) (sites : List SiteState) (long : length sites ≡ w.site
             let now = latest_alike p q x s.session c.version (notes k) (all_alike p q x (same none) (notes k)) ∙ old.current free in
             let most = version_most h x n (sym (same none n) ∙ wrote) in
             absurd (omega (arith, now, most, more))
-
-        abbrev IsFull : Out → Type 0
-        IsFull out = out.0 ≡ k + 2 → (behind : List Letter) → ReadsWhole q x s.session (latest q x s.session c.version (notes k)) out.2 behind
 
         whole : AllByRecursion (λ (l : Letter). (behind : List Letter) → ReadsWhole q x s.session (latest q x s.session c.version (notes k)) l.message behind) (new k)
         whole = all_sent (λ (l : Letter). (behind : List Letter) → ReadsWhole q x s.session (latest q x s.session c.version (notes k)) l.message behind) (k + 2) 0 clock outs
@@ -419,7 +417,7 @@ module _ (w : Workload) (sites : List SiteState) (long : length sites ≡ w.site
         or_none false = refl
 
     plainly : (d : Entry) → e ≡ d → holds x (writes_of d) ≡ false → IsNoRead d → turn_lock (site (k + 1)) x p (is_copy_locked p (site (k + 1)) x) d ≡ is_copy_locked p (site (k + 1)) x → IsKeptUp q (site (k + 1)) x s.session c.version (notes k ++ new k)
-    plainly d is none no lock = as_locked (ap (λ z. holds x (writes_of z)) is ∙ none) (lock_now (site (k + 1)) x ∙ ap (turn_lock (site (k + 1)) x p (is_copy_locked p (site (k + 1)) x)) is ∙ lock) (none_read (subst IsNoRead (sym is) no) (latest q x s.session c.version (notes k)))
+    plainly d is none calm lock = as_locked (ap (λ z. holds x (writes_of z)) is ∙ none) (lock_now (site (k + 1)) x ∙ ap (turn_lock (site (k + 1)) x p (is_copy_locked p (site (k + 1)) x)) is ∙ lock) (none_read (subst IsNoRead (sym is) calm) (latest q x s.session c.version (notes k)))
 
     kept_was : IsKeptUp q (site (k + 1)) x s.session c.version (notes k ++ new k)
     kept_was = go e refl
@@ -446,15 +444,15 @@ module _ (w : Workload) (sites : List SiteState) (long : length sites ≡ w.site
 
   -- what is to be applied is owed
   abbrev IsOwedTo : SiteState → ℕ → Letter → Type 0
-  IsOwedTo s k l = (l.to == s.session) ≡ true → ApplyOwed q (site (k + 1)) l.message
+  IsOwedTo s k l = (l.to == s.session) ≡ true → ApplyOwed (add (noted h) e) (site (k + 1)) l.message
+
+  abbrev ToOwed : ℕ → SiteState → Out → Type 0
+  ToOwed k s out = out.0 ≡ k + 2 → (out.1 == s.session) ≡ true → ApplyOwed (add (noted h) e) (site (k + 1)) out.2
 
   owed_new : (k : ℕ) (s : SiteState) → AllByRecursion (IsOwedTo s k) (new k)
-  owed_new k s = all_sent (IsOwedTo s k) (k + 2) 0 clock outs (sends_of w q ask ToOwed e (go e refl))
+  owed_new k s = all_sent (IsOwedTo s k) (k + 2) 0 clock outs (sends_of w q ask (ToOwed k s) e (go e refl))
     where
-      abbrev ToOwed : Out → Type 0
-      ToOwed out = out.0 ≡ k + 2 → (out.1 == s.session) ≡ true → ApplyOwed q (site (k + 1)) out.2
-
-      go : (d : Entry) → e ≡ d → SendsOf w q ask ToOwed d
+      go : (d : Entry) → e ≡ d → SendsOf w q ask (ToOwed k s) d
       go (Read t x r) is = ((λ of to. tt), (λ of to. tt))
       go (Commit t r applied) is = λ z. (
         (λ there of to. owes_now p e (site (k + 1)) t ∙ ap (turn_owed (site (k + 1)) t (owes p (site (k + 1)) t)) is
@@ -486,17 +484,17 @@ module _ (w : Workload) (sites : List SiteState) (long : length sites ≡ w.site
       go (Down r) is = ap not (down_other r is k s live)
       go other is = refl
 
+  abbrev IsPending : ℕ → SiteState → Letter → Type 0
+  IsPending k s l = (l.to == s.session) ≡ true → (t : Txn) (n : ℕ) → l.message ≡ letters.Apply t n → is_pending s.session n (link links (k + 2) 1) ≡ true
+
+  abbrev WasOwed : ℕ → SiteState → Letter → Type 0
+  WasOwed k s l = (l.to == s.session) ≡ true → ApplyOwed (noted h) (site (k + 1)) l.message
+
   owed_now : (k : ℕ) (s : SiteState) → IsLive q sites k s → AllByRecursion (IsOwedTo s k) (notes k ++ new k)
   owed_now k s live = all_append (IsOwedTo s k) (notes k) (new k) (go (live_now w sites long from letter first h links clock ask e mid goes why k s live)) (owed_new k s)
     where
       low : k < w.sites
       low = inside w sites long from letter first h links clock ask e mid goes why k s live.at
-
-      abbrev IsPending : Letter → Type 0
-      IsPending l = (l.to == s.session) ≡ true → (t : Txn) (n : ℕ) → l.message ≡ letters.Apply t n → is_pending s.session n (notes k) ≡ true
-
-      abbrev WasOwed : Letter → Type 0
-      WasOwed l = (l.to == s.session) ≡ true → ApplyOwed p (site (k + 1)) l.message
 
       say : IsLive p sites k s → (m : Message) → ApplySays p (site (k + 1)) m → ((t : Txn) (n : ℕ) → m ≡ letters.Apply t n → is_pending s.session n (notes k) ≡ true) → ApplyOwed p (site (k + 1)) m → ApplyOwed q (site (k + 1)) m
       say before (letters.Apply t n) says pending owed = owed_still k s live before t n says (pending t n refl) owed
@@ -504,9 +502,9 @@ module _ (w : Workload) (sites : List SiteState) (long : length sites ≡ w.site
 
       go : Was w.sites p q (length p + 1) sites links (after w sites long from letter first h links clock ask e mid goes why) new k s → AllByRecursion (IsOwedTo s k) (notes k)
       go (was before) =
-          all_both (λ (l : Letter). ApplySays p (site (k + 1)) l.message × IsPending l) WasOwed (IsOwedTo s k) (notes k) (λ l a b to. say before l.message a.0 (a.1 to) (b to))
-          (all_both (λ (l : Letter). ApplySays p (site (k + 1)) l.message) IsPending (λ (l : Letter). ApplySays p (site (k + 1)) l.message × IsPending l) (notes k) (λ l a b. (a, b)) (mid.applied k low) (each_pending s.session (notes k))) (mid.last.owed k s before)
-      go (risen others none unapplied unread_) = all_weaken (λ (l : Letter). (l.to == s.session) ≡ false) (IsOwedTo s k) (notes k) (λ l no to. absurd (true≢false (sym to ∙ no))) others
+          all_both (λ (l : Letter). ApplySays p (site (k + 1)) l.message × IsPending k s l) (WasOwed k s) (IsOwedTo s k) (notes k) (λ l a b to. say before l.message a.0 (a.1 to) (b to))
+          (all_both (λ (l : Letter). ApplySays p (site (k + 1)) l.message) (IsPending k s) (λ (l : Letter). ApplySays p (site (k + 1)) l.message × IsPending k s l) (notes k) (λ l a b. (a, b)) (mid.applied k low) (each_pending s.session (notes k))) (mid.last.owed k s before)
+      go (risen others none unapplied unread_) = all_weaken (λ (l : Letter). (l.to == s.session) ≡ false) (IsOwedTo s k) (notes k) (λ l far to. absurd (true≢false (sym to ∙ far))) others
 
   pub placed_mid : Mid w sites q (after w sites long from letter first h links clock ask e mid goes why)
   placed_mid = mid_now w sites long from letter first h links clock ask e mid goes why
