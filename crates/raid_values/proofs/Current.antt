@@ -29,7 +29,8 @@ use Rattle.raid_staged.specs.Agree.{PartsAgree}
 use Rattle.raid_staged.specs.Staged.{is_staged, ApplyStaged, StagedFirst}
 use Rattle.raid_staged.proofs.PartRuns.{runs_agree}
 use Rattle.raid_staged.proofs.Runs.{landed, runs_stage}
-use Rattle.raid_versions.specs.Versions.{was_written, IsLive, after_message, after_letter, latest, HaveLastVersions}
+use Rattle.raid_versions.specs.Versions.{was_written, IsLive, after_message, after_letter, latest}
+use Rattle.raid_versions.proofs.Runs.{runs_last}
 use Rattle.raid_values.specs.Values.{committed_value, after_hearing, after_all, IsCurrentIn, CopiesBecomeCurrent}
 use Rattle.raid_values.proofs.Committed.{CopyOf, IsOf}
 use Rattle.raid_values.proofs.Items.{items_of, held_items, copies_held, copies_found, runs_items}
@@ -100,7 +101,7 @@ module _ (w : Workload) (state : World) (says : WorldSays w state) (agree : Part
         go false q = h
 
 -- so each such copy
-module _ (w : Workload) (versions : (schedule : List Pick) → HaveLastVersions (run w schedule)) (schedule : List Pick) where
+module _ (w : Workload) (schedule : List Pick) where
   abbrev now : World
   now = run w schedule
 
@@ -111,7 +112,7 @@ module _ (w : Workload) (versions : (schedule : List Pick) → HaveLastVersions 
       IsCurrentIn w entries (after_all s c (link now.links (k + 2) 1))
   current k s live c is held found unlocked =
       let h = all_has w now (landed w schedule).says (runs_agree w schedule) (runs_stage w schedule) k s live c.item held (link now.links (k + 2) 1) (all_ready w now (landed w schedule).says (runs_agree w schedule) (runs_stage w schedule) k s live) c.version c (record { of = refl; version = refl; value = is.value }) in
-      let last : latest entries c.item s.session c.version (link now.links (k + 2) 1) ≡ version entries c.item = ((versions schedule).kept k s live c.item c found).current unlocked in
+      let last : latest entries c.item s.session c.version (link now.links (k + 2) 1) ≡ version entries c.item = ((runs_last w schedule).kept k s live c.item c found).current unlocked in
       record {
         value = h.value ∙ ap (committed_value w entries c.item) last ∙ version_value w c.item (run w schedule).servers.sequencer.history ∙ ap (value_of w entries) (sym h.of);
         version = h.version ∙ last ∙ ap (version entries) (sym h.of);

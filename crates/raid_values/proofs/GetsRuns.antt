@@ -34,6 +34,7 @@ use Rattle.raid_staged.proofs.PartRuns.{runs_agree}
 use Rattle.raid_staged.proofs.Runs.{landed, runs_stage}
 use Rattle.raid_staged.proofs.Worlds.{Landed}
 use Rattle.raid_versions.specs.Versions.{IsLive, HaveLastVersions}
+use Rattle.raid_versions.proofs.Runs.{runs_last}
 use Rattle.raid_values.specs.Gets.{IsAnsweredBySeen, GetWhatTheySaw, ProgramsGetWhatTheySaw}
 use Rattle.raid_values.proofs.Committed.{AllOf, found_item}
 use Rattle.raid_values.proofs.GetsSites.{site_gets}
@@ -95,33 +96,32 @@ module _ (w : Workload) where
   open_gets : At (open_world w)
   open_gets k s r number x q live f is alive = subst (OpenAt k) (first_state w 1 w.sites k s live.at) (λ r number x q live f is alive. absurd (nothing f)) r number x q live f is alive
 
-  module _ (versions : (schedule : List Pick) → HaveLastVersions (run w schedule)) where
-    around : (schedule : List Pick) → Around (run w schedule)
-    around schedule = record {
-      landed = landed w schedule;
-      agree = runs_agree w schedule;
-      staged = runs_stage w schedule;
-      copies = runs_of w schedule;
-      holds = λ k s at x c has. subst (λ z. is_held w (site (k + 1)) z ≡ true) (found_item x s.copies c has)
-          (all_found (λ (c : Copy). is_held w (site (k + 1)) c.item ≡ true) (λ (c : Copy). is_item x c.item) s.copies c (copies_held w k s.copies (runs_items w schedule k s at)) has);
-      versions = versions schedule;
-      talk = asks_one w schedule;
-    }
+  around : (schedule : List Pick) → Around (run w schedule)
+  around schedule = record {
+    landed = landed w schedule;
+    agree = runs_agree w schedule;
+    staged = runs_stage w schedule;
+    copies = runs_of w schedule;
+    holds = λ k s at x c has. subst (λ z. is_held w (site (k + 1)) z ≡ true) (found_item x s.copies c has)
+        (all_found (λ (c : Copy). is_held w (site (k + 1)) c.item ≡ true) (λ (c : Copy). is_item x c.item) s.copies c (copies_held w k s.copies (runs_items w schedule k s at)) has);
+    versions = runs_last w schedule;
+    talk = asks_one w schedule;
+  }
 
-    talk_of : (schedule : List Pick) → TalkAll w (run w schedule).servers (run w schedule).links
-    talk_of schedule = (let a = asks_one w schedule in (a.one, a.talks))
+  talk_of : (schedule : List Pick) → TalkAll w (run w schedule).servers (run w schedule).links
+  talk_of schedule = (let a = asks_one w schedule in (a.one, a.talks))
 
-    step : (schedule : List Pick) (p : Pick) → At (run w schedule) → At (run w (schedule ++ p ∷ []))
-    step schedule p all =
-        let s = run w schedule in
-        let same = fold-append (pick w) (open_world w) schedule (p ∷ []) in
-        subst At (sym same)
-        (front_gets s p.server p.from (link s.links p.server p.from) refl (around schedule) all
-        (subst (λ (z : World). Placed w z.servers.sequencer.history) same (reached w (schedule ++ p ∷ [])).placed) (subst (λ (z : World). TalkAll w z.servers z.links) same (talk_of (schedule ++ p ∷ []))))
+  step : (schedule : List Pick) (p : Pick) → At (run w schedule) → At (run w (schedule ++ p ∷ []))
+  step schedule p all =
+      let s = run w schedule in
+      let same = fold-append (pick w) (open_world w) schedule (p ∷ []) in
+      subst At (sym same)
+      (front_gets s p.server p.from (link s.links p.server p.from) refl (around schedule) all
+      (subst (λ (z : World). Placed w z.servers.sequencer.history) same (reached w (schedule ++ p ∷ [])).placed) (subst (λ (z : World). TalkAll w z.servers z.links) same (talk_of (schedule ++ p ∷ []))))
 
-    steps : (before more : List Pick) → At (run w before) → At (run w (before ++ more))
-    steps before [] all = subst (λ z. At (run w z)) (sym (append-nil before)) all
-    steps before (p ∷ more) all = subst (λ z. At (run w z)) (append_assoc before (p ∷ []) more) (steps (before ++ p ∷ []) more (step before p all))
+  steps : (before more : List Pick) → At (run w before) → At (run w (before ++ more))
+  steps before [] all = subst (λ z. At (run w z)) (sym (append-nil before)) all
+  steps before (p ∷ more) all = subst (λ z. At (run w z)) (append_assoc before (p ∷ []) more) (steps (before ++ p ∷ []) more (step before p all))
 
-    pub runs_get : (schedule : List Pick) → ProgramsGetWhatTheySaw w (run w schedule)
-    runs_get schedule = steps [] schedule open_gets
+  pub runs_get : (schedule : List Pick) → ProgramsGetWhatTheySaw w (run w schedule)
+  runs_get schedule = steps [] schedule open_gets

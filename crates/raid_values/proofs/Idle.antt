@@ -28,7 +28,7 @@ use Rattle.raid_moves.proofs.Places.{all_both, all_kept}
 use Rattle.raid_letters.specs.Says.{is_held}
 use Rattle.raid_staged.proofs.Runs.{landed}
 use Rattle.raid_staged.proofs.Worlds.{all_given}
-use Rattle.raid_versions.specs.Versions.{IsLive, HaveLastVersions}
+use Rattle.raid_versions.specs.Versions.{IsLive}
 use Rattle.raid_values.specs.Values.{after_all, IsCurrentIn}
 use Rattle.raid_values.proofs.Current.{become_current}
 use Rattle.raid_values.proofs.Items.{items_of, held_items, numbered, of_items, copies_held, runs_items}
@@ -82,7 +82,7 @@ in_range a (suc n) = ((omega arith, omega arith), later (a + 1) n (in_range (a +
     later b zero h = tt
     later b (suc m) h = ((let l = h.0.0 in let u = h.0.1 in (omega (arith, l), omega (arith, u))), later (b + 1) m h.1)
 
-module _ (w : Workload) (versions : (schedule : List Pick) → HaveLastVersions (run w schedule)) (schedule : List Pick) (idle : is_idle (run w schedule) ≡ true) where
+module _ (w : Workload) (schedule : List Pick) (idle : is_idle (run w schedule) ≡ true) where
   abbrev now : World
   now = run w schedule
 
@@ -135,7 +135,7 @@ module _ (w : Workload) (versions : (schedule : List Pick) → HaveLastVersions 
   Gets k s c = IsLive p now.servers.sites k s → is_copy_locked p (site (k + 1)) c.item ≡ false → IsCurrentIn w p (after_all s c (link now.links (k + 2) 1))
 
   all_get : (k : ℕ) (s : SiteState) → AllByRecursion (Gets k s) s.copies
-  all_get k s = all_given (λ (live : IsLive p now.servers.sites k s) (c : Copy). is_copy_locked p (site (k + 1)) c.item ≡ false → IsCurrentIn w p (after_all s c (link now.links (k + 2) 1))) s.copies (become_current w versions schedule k s)
+  all_get k s = all_given (λ (live : IsLive p now.servers.sites k s) (c : Copy). is_copy_locked p (site (k + 1)) c.item ≡ false → IsCurrentIn w p (after_all s c (link now.links (k + 2) 1))) s.copies (become_current w schedule k s)
 
   abbrev Told : Copy → Type 0
   Told c = first_of c.item finals ≡ Some (value_of w p c.item)
