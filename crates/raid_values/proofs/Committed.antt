@@ -1,12 +1,11 @@
 -- Each step keeps the value of each copy, and of each copy on its way, the one that the Commit with its version gave.
-use Rattle.std.proofs.Common.{◌≡◌, ◌≢◌, ◌⊎◌, inl, inr, ℕ, ℤ, zero, suc, ◌+◌, ◌-◌, ◌<◌, ◌≤◌, ◌==◌, Bool, true, false, List, [], ◌∷◌, ◌++◌, length, map, find, Option, Some, None, if◌then◌else◌, arith, sym, subst, ap, ◌∙◌, refl}
+use Rattle.std.proofs.Common.{◌≡◌, ◌≢◌, ◌⊎◌, inl, inr, ℕ, ℤ, zero, suc, ◌+◌, ◌-◌, ◌≤◌, Bool, true, false, List, [], ◌∷◌, length, map, Option, Some, None, if◌then◌else◌, arith, sym, subst, ap, ◌∙◌, refl}
 use Rattle.std.specs.Prelude.{⊤, slice_get, slice_set}
 use Rattle.std.specs.Option.{option_map_or}
 use Rattle.std.specs.List.{AllByRecursion}
 use Rattle.raid_base.specs.declared.names.Txn.{Txn}
 use Rattle.raid_base.specs.declared.names.Item.{Item}
 use Rattle.raid_base.specs.declared.entry.Noted.{Noted}
-use Rattle.raid_base.specs.declared.entry.Entry.{Entry}
 use Rattle.raid_base.specs.declared.entry.Entry.TheVariants.{Read, Wait}
 use Rattle.raid_base.specs.Find.{first_of}
 use Rattle.raid_base.specs.Names.{is_item}
@@ -17,14 +16,14 @@ use Rattle.raid_message.specs.declared.letter.Message.{Message}
 use Rattle.raid_message.specs.declared.letter.Message.TheVariants as letters
 use Rattle.raid_message.specs.declared.letter.Letter.{Letter}
 use Rattle.raid_steps.specs.State.{Out, Turn, Sequencer, opened, Copy, SiteState}
-use Rattle.raid_steps.specs.Copies.{copy_of, renewed, set_copy, staged_of}
+use Rattle.raid_steps.specs.Copies.{copy_of, renewed, staged_of}
 use Rattle.raid_steps.specs.Sequencer.{so_far, place, hear_sequencer}
 use Rattle.raid_steps.specs.Site.{hear_site}
 use Rattle.raid_steps.specs.World.{World, link}
 use Rattle.raid_sessions.proofs.Lists.{all_weaken, get_below, get_set, get_other, some_is}
 use Rattle.raid_sessions.proofs.Mail.{same_or_not, moved}
 use Rattle.raid_moves.specs.Moves.{Tells, Says}
-use Rattle.raid_moves.proofs.Places.{all_found, nothing as none_there}
+use Rattle.raid_moves.proofs.Places.{all_found}
 use Rattle.raid_letters.specs.Says.{NoteSays, was_applied}
 use Rattle.raid_letters.proofs.Runs.{LetterSays, QueueSays}
 use Rattle.raid_layers.proofs.Opening.{First, reads, waits, nothing, Chain, done, places, sends, Opens, hear_opens}
@@ -35,7 +34,7 @@ use Rattle.raid_values.specs.Values.{committed_value}
 use Rattle.raid_values.proofs.Pushes.{GoesOn, goes_same, goes_further, goes_more}
 use Rattle.raid_versions.proofs.SiteCopies.{same_item, found_item, set_in}
 use Rattle.raid_versions.proofs.SiteParts.{Copied, keeps, applies, renews, step_copies}
-use Rattle.raid_values.proofs.Rows.{Sent, AreSent, step_sent}
+use Rattle.raid_values.proofs.Rows.{Sent, step_sent}
 use Rattle.raid_values.proofs.Written.{Applied, applied_here}
 
 -- what holds of mapped elements

@@ -5,7 +5,6 @@ use Rattle.std.specs.Option.{option_map_or}
 use Rattle.std.proofs.lemmas.List.Sums.{fold-append}
 use Rattle.raid_base.specs.declared.names.Item.{Item}
 use Rattle.raid_base.specs.declared.names.Site.{Site}
-use Rattle.raid_base.specs.Names.{is_item}
 use Rattle.raid_base.specs.Sites.{site}
 use Rattle.raid_workload.specs.declared.workload.Workload.{Workload}
 use Rattle.raid_rules.specs.History.{noted, has_ended}
@@ -21,7 +20,7 @@ use Rattle.raid_placed.specs.Placed.{Placed}
 use Rattle.raid_sessions.proofs.Lists.{get_below, get_set}
 use Rattle.raid_sessions.proofs.Mail.{moved}
 use Rattle.raid_sessions.proofs.Reached.{server_below, reached}
-use Rattle.raid_moves.proofs.Places.{all_found, nothing}
+use Rattle.raid_moves.proofs.Places.{nothing}
 use Rattle.raid_asks.proofs.Reached.{first_state}
 use Rattle.raid_letters.specs.Says.{is_held}
 use Rattle.raid_layers.specs.Asks.{AskOneThing}

@@ -1,15 +1,15 @@
 -- Each step of a site keeps what is on its way to answer an ask the value that the transaction has seen.
-use Rattle.std.proofs.Common.{◌≡◌, ◌≢◌, ◌⊎◌, inl, inr, ℕ, ℤ, zero, suc, ◌+◌, ◌-◌, ◌<◌, ◌≤◌, ◌==◌, nat_le, Bool, true, false, ◌&&◌, ◌||◌, List, [], ◌∷◌, ◌++◌, map, find, Option, Some, None, if◌then◌else◌, arith, sym, subst, ap, ◌∙◌, refl}
-use Rattle.std.specs.Prelude.{⊤, slice_get, slice_set}
+use Rattle.std.proofs.Common.{◌≡◌, ◌≢◌, ◌⊎◌, inl, inr, ℕ, ℤ, zero, suc, ◌+◌, ◌-◌, ◌<◌, ◌≤◌, ◌==◌, nat_le, Bool, true, false, ◌&&◌, List, [], ◌∷◌, ◌++◌, find, Option, Some, None, if◌then◌else◌, arith, sym, subst, ap, ◌∙◌, refl}
+use Rattle.std.specs.Prelude.{slice_get, slice_set}
 use Rattle.std.specs.Option.{option_map_or}
-use Rattle.std.specs.List.{AllByRecursion, list_any}
-use Rattle.std.proofs.lemmas.Bool.{and_parts, and_from, eqb-true, true≢false}
+use Rattle.std.specs.List.{AllByRecursion}
+use Rattle.std.proofs.lemmas.Bool.{and_from, eqb-true, true≢false}
 use Rattle.raid_base.specs.declared.names.Txn.{Txn}
 use Rattle.raid_base.specs.declared.names.Item.{Item}
 use Rattle.raid_base.specs.declared.names.Site.{Site}
 use Rattle.raid_base.specs.declared.entry.Noted.{Noted}
 use Rattle.raid_base.specs.Find.{first_of}
-use Rattle.raid_base.specs.Names.{is_txn, is_item}
+use Rattle.raid_base.specs.Names.{is_item}
 use Rattle.raid_base.specs.Sites.{site}
 use Rattle.raid_workload.specs.declared.workload.Workload.{Workload}
 use Rattle.raid_rules.specs.History.{noted, has_ended}
@@ -18,9 +18,9 @@ use Rattle.raid_legal.specs.Seen.{seen}
 use Rattle.raid_message.specs.declared.letter.Message.{Message}
 use Rattle.raid_message.specs.declared.letter.Message.TheVariants as letters
 use Rattle.raid_message.specs.declared.letter.Letter.{Letter}
-use Rattle.raid_steps.specs.State.{Out, Turn, Phase, asking, Copy, Running, SiteState}
-use Rattle.raid_steps.specs.Copies.{copy_of, renewed, set_copy, staged_of}
-use Rattle.raid_steps.specs.Fits.{is_of_sequencer, knows_txn}
+use Rattle.raid_steps.specs.State.{Out, Turn, asking, Copy, Running, SiteState}
+use Rattle.raid_steps.specs.Copies.{copy_of, renewed, staged_of}
+use Rattle.raid_steps.specs.Fits.{knows_txn}
 use Rattle.raid_steps.specs.Programs.{running_of}
 use Rattle.raid_steps.specs.Site.{fits_here, hear_site}
 use Rattle.raid_steps.specs.World.{World, link}
@@ -30,17 +30,17 @@ use Rattle.raid_sessions.proofs.Lists.{all_weaken, get_below, get_set, get_other
 use Rattle.raid_sessions.proofs.Mail.{same_or_not, letters_to, moved, moved_sent, moved_taken, moved_other}
 use Rattle.raid_sessions.proofs.Reached.{server_below, from_below}
 use Rattle.raid_moves.specs.Moves.{Hears, Tells, Says}
-use Rattle.raid_moves.proofs.Places.{found_txn, nothing, something}
+use Rattle.raid_moves.proofs.Places.{found_txn, something}
 use Rattle.raid_asks.proofs.Facts.{or_right}
 use Rattle.raid_letters.specs.Says.{NoteSays, is_held, was_applied}
 use Rattle.raid_letters.proofs.Runs.{LetterSays, QueueSays}
 use Rattle.raid_layers.specs.Asks.{asks_of, OfSequencer, HoldsOf, AllTokens, IsBelow, Outstanding, asked, dropped, read, IsAbout, Talks, AskOneThing}
 use Rattle.raid_layers.proofs.SiteWorlds.{HomeStep, same, falls, rises, hears, home_step}
-use Rattle.raid_layers.proofs.Tokens.{OnLinks, TokenAt, step_all, all_weaker, asks_append}
+use Rattle.raid_layers.proofs.Tokens.{TokenAt, step_all, all_weaker, asks_append}
 use Rattle.raid_layers.proofs.Turns.{asked_by, asked_sent}
 use Rattle.raid_layers.proofs.Worlds.{TalksAt}
 use Rattle.raid_staged.specs.Agree.{PartsAgree}
-use Rattle.raid_staged.specs.Staged.{is_staged, ApplyStaged, StagedFirst}
+use Rattle.raid_staged.specs.Staged.{ApplyStaged, StagedFirst}
 use Rattle.raid_staged.proofs.Ends.{applied_committed}
 use Rattle.raid_staged.proofs.Worlds.{Landed}
 use Rattle.raid_versions.specs.Versions.{was_written, IsVersion, IsLive, LastVersions, Along, after_message, after_letter, AreAbove, NoGap, ReadsWhole, reads_copy, is_pending, applies as is_apply, Brings}
@@ -48,13 +48,13 @@ use Rattle.raid_versions.proofs.SiteCopies.{same_item, found_item, found_mapped,
 use Rattle.raid_versions.proofs.SiteFacts.{committed_known}
 use Rattle.raid_versions.proofs.SiteParts.{Passes, Copied, keeps, applies, renews, step_copies}
 use Rattle.raid_versions.proofs.SiteLetters.{Effect, leaves, sets, effect, above_rest}
-use Rattle.raid_values.specs.Gets.{Ask, reads_for, ReadsSeen, brings_for, BringsSeen, IsAnsweredBySeen, GetWhatTheySaw}
+use Rattle.raid_values.specs.Gets.{Ask, reads_for, ReadsSeen, BringsSeen, IsAnsweredBySeen, GetWhatTheySaw}
 use Rattle.raid_values.specs.Values.{committed_value}
 use Rattle.raid_values.proofs.Asking.{Waited, step_knows}
 use Rattle.raid_values.proofs.Claims.{IsNot, IsOfItem, below_not, of_item, IsReadFor, IsBroughtFor, read_parts, read_whole, brought_parts, Brought, brought_links, links_brought, none_answers}
-use Rattle.raid_values.proofs.Committed.{AllOf, CopyOf, own_copy, told_part, told_applied}
-use Rattle.raid_values.proofs.GetsWorlds.{home_live, outstanding}
-use Rattle.raid_values.proofs.Rows.{Sent, SendsValue, step_sent}
+use Rattle.raid_values.proofs.Committed.{AllOf, CopyOf, own_copy, told_part}
+use Rattle.raid_values.proofs.GetsWorlds.{outstanding}
+use Rattle.raid_values.proofs.Rows.{Sent, step_sent}
 use Rattle.raid_values.proofs.Written.{Applied}
 
 empty_last : {X : Type 0} (xs ys : List X) → xs ++ ys ≡ [] → ys ≡ []

@@ -1,8 +1,8 @@
 -- Each step of the monitor and of the sequencer keeps what is on its way to answer an ask the value that the transaction has seen.
-use Rattle.std.proofs.Common.{◌≡◌, ◌≢◌, ◌⊎◌, inl, inr, ℕ, ℤ, zero, suc, ◌+◌, ◌-◌, ◌<◌, ◌≤◌, ◌==◌, nat_lt, Bool, true, false, not, ◌&&◌, List, [], ◌∷◌, ◌++◌, length, Option, Some, None, if◌then◌else◌, arith, sym, subst, ap, ◌∙◌, refl}
+use Rattle.std.proofs.Common.{◌≡◌, ◌≢◌, ◌⊎◌, inl, inr, ℕ, suc, ◌+◌, ◌-◌, ◌<◌, ◌≤◌, ◌==◌, nat_lt, Bool, true, false, ◌&&◌, List, [], ◌∷◌, ◌++◌, Option, Some, if◌then◌else◌, arith, sym, subst, ap, ◌∙◌, refl}
 use Rattle.std.specs.Prelude.{⊤, slice_get}
 use Rattle.std.specs.List.{AllByRecursion, list_any}
-use Rattle.std.proofs.lemmas.Bool.{and_parts, and_from, eqb-true, true≢false}
+use Rattle.std.proofs.lemmas.Bool.{and_from, eqb-true, true≢false}
 use Rattle.raid_base.specs.declared.names.Txn.{Txn}
 use Rattle.raid_base.specs.declared.names.Item.{Item}
 use Rattle.raid_base.specs.declared.names.Site.{Site}
@@ -10,32 +10,23 @@ use Rattle.raid_base.specs.declared.entry.Entry.{Entry}
 use Rattle.raid_base.specs.declared.entry.Entry.TheVariants.{Read, Wait}
 use Rattle.raid_base.specs.declared.entry.Noted.{Noted}
 use Rattle.raid_base.specs.Names.{is_txn, is_item, is_site, has_site}
-use Rattle.raid_base.specs.Sites.{session, site, all_sites}
+use Rattle.raid_base.specs.Sites.{session, site}
 use Rattle.raid_workload.specs.declared.workload.Workload.{Workload}
-use Rattle.raid_workload.specs.Parts.{home, placement}
+use Rattle.raid_workload.specs.Parts.{home}
 use Rattle.raid_rules.specs.Entries.{is_end_of, reads_item}
-use Rattle.raid_rules.specs.History.{noted, add, next, stamp, has_ended, version}
-use Rattle.raid_rules.specs.Sessions.{last_session, is_copy_locked, is_site_up, source_for}
-use Rattle.raid_rules.specs.Verdicts.{reading}
-use Rattle.raid_base.specs.declared.verdict.Verdict.{Verdict}
-use Rattle.raid_base.specs.declared.verdict.Verdict.TheVariants as verdicts
-use Rattle.raid_rules.specs.Sessions as rules
+use Rattle.raid_rules.specs.History.{noted, next, has_ended, version}
+use Rattle.raid_rules.specs.Sessions.{last_session, is_copy_locked, is_site_up}
 use Rattle.raid_rules.proofs.Push.{noted_push, same_txn}
-use Rattle.raid_rules.proofs.Sources.{has_kept}
 use Rattle.raid_legal.specs.Seen.{seen, value_of, vector, sources}
 use Rattle.raid_message.specs.declared.letter.Message.{Message}
 use Rattle.raid_message.specs.declared.letter.Message.TheVariants as letters
 use Rattle.raid_message.specs.declared.letter.Letter.{Letter}
-use Rattle.raid_steps.specs.State.{Out, Turn, Sequencer, Phase, asking, Copy, Running, SiteState, opened, to_site}
+use Rattle.raid_steps.specs.State.{Out, Turn, Sequencer, asking, Copy, Running, SiteState, opened, to_site}
 use Rattle.raid_steps.specs.Copies.{copy_of}
 use Rattle.raid_steps.specs.Programs.{running_of}
 use Rattle.raid_steps.specs.Sequencer.{so_far, place, hear_sequencer}
 use Rattle.raid_steps.specs.World.{World, link}
-use Rattle.raid_legal.specs.Answers.{served, answer_read}
-use Rattle.raid_legal.specs.Forced.{forced}
-use Rattle.raid_legal.specs.InForce.{verdict}
-use Rattle.raid_legal.proofs.Left.{forced_compels}
-use Rattle.raid_placed.specs.Placed.{Placed, Placeable, Goes}
+use Rattle.raid_placed.specs.Placed.{Placed}
 use Rattle.raid_placed.proofs.Sent.{placed_push}
 use Rattle.raid_sessions.proofs.Agreed.{told_follows}
 use Rattle.raid_sessions.proofs.Ledger.{session_still}
@@ -44,28 +35,27 @@ use Rattle.raid_sessions.proofs.Mail.{same_or_not, letter_of, letters_to, moved,
 use Rattle.raid_asks.proofs.Cares as cares
 use Rattle.raid_asks.proofs.Cares.{Stage, stopped, asleep, awake}
 use Rattle.raid_asks.proofs.Notes.{all_sent}
-use Rattle.raid_letters.specs.Says.{NoteSays, AskSays, was_applied, is_applied}
+use Rattle.raid_letters.specs.Says.{NoteSays, AskSays, is_applied}
 use Rattle.raid_letters.proofs.Later.{Later}
 use Rattle.raid_letters.proofs.Runs.{LetterSays, QueueSays, steps_on}
-use Rattle.raid_letters.proofs.Sends.{first_in}
 use Rattle.raid_layers.specs.Asks.{asks_of, ask_of, OfSequencer, AllTokens, IsBelow, Outstanding, asked, dropped, read, IsAbout, Talks, AskOneThing}
 use Rattle.raid_layers.proofs.Opening.{First, reads, waits, nothing, Chain, done, places, sends, IsLater, Opens, hear_opens}
 use Rattle.raid_layers.proofs.Settled.{Settled, chain_settled, calm_holds}
 use Rattle.raid_layers.proofs.SiteWorlds.{none_there}
-use Rattle.raid_layers.proofs.Tokens.{OnLinks, SentHolds, step_all, all_weaker, asked_home}
+use Rattle.raid_layers.proofs.Tokens.{SentHolds, step_all, all_weaker}
 use Rattle.raid_steps.specs.Fits.{knows_site}
 use Rattle.raid_steps.proofs.Parts.{number_known}
-use Rattle.raid_moves.proofs.Places.{all_found, something}
+use Rattle.raid_moves.proofs.Places.{all_found}
 use Rattle.raid_asks.proofs.Least.{Ours}
 use Rattle.raid_staged.proofs.Worlds.{Landed}
-use Rattle.raid_versions.specs.Versions.{was_written, IsVersion, IsLive, LastVersions, Along, after_letter, latest, IsKeptUp}
+use Rattle.raid_versions.specs.Versions.{IsVersion, IsLive, LastVersions, Along, after_letter, latest}
 use Rattle.raid_versions.proofs.Links.{IsAlike, AreAlike, latest_alike, along_on, AreForOthers, along_others, latest_others}
 use Rattle.raid_versions.proofs.Placing.{read_source}
 use Rattle.raid_versions.proofs.Steps.{source_unlocked}
 use Rattle.raid_versions.proofs.Written.{numbered, version_long}
-use Rattle.raid_values.specs.Gets.{Ask, reads_for, ReadsSeen, brings_for, BringsSeen, IsAnsweredBySeen, GetWhatTheySaw}
+use Rattle.raid_values.specs.Gets.{Ask, reads_for, ReadsSeen, BringsSeen, IsAnsweredBySeen, GetWhatTheySaw}
 use Rattle.raid_values.specs.Values.{committed_value}
-use Rattle.raid_values.proofs.Claims.{IsNot, below_not, NoneReads, along_none, none_on, none_read, read_parts, none_brought, Brought, brought_links, links_brought, none_answers}
+use Rattle.raid_values.proofs.Claims.{IsNot, below_not, NoneReads, along_none, none_on, none_read, read_parts, Brought, brought_links, links_brought, none_answers}
 use Rattle.raid_values.proofs.Committed.{step_goes}
 use Rattle.raid_values.proofs.Pushes.{GoesOn, seen_push, version_value, version_within}
 

@@ -1,9 +1,8 @@
 -- The value that a letter gives to a program is the one that its transaction has seen.
-use Rattle.std.proofs.Common.{◌≡◌, ℕ, ℤ, suc, ◌+◌, ◌-◌, ◌==◌, true, false, ◌&&◌, List, [], ◌∷◌, Option, Some, arith, sym, subst, ap, ◌∙◌, refl}
+use Rattle.std.proofs.Common.{◌≡◌, ℕ, ℤ, suc, ◌+◌, ◌-◌, ◌==◌, true, false, ◌&&◌, List, ◌∷◌, Option, Some, arith, sym, subst, ap, ◌∙◌, refl}
 use Rattle.std.specs.Prelude.{slice_get}
 use Rattle.std.specs.List.{AllByRecursion}
 use Rattle.std.proofs.lemmas.Bool.{and_from}
-use Rattle.raid_base.specs.declared.names.Txn.{Txn}
 use Rattle.raid_base.specs.declared.names.Item.{Item}
 use Rattle.raid_base.specs.declared.names.Site.{Site}
 use Rattle.raid_base.specs.declared.entry.Noted.{Noted}
@@ -16,7 +15,7 @@ use Rattle.raid_legal.specs.Seen.{seen}
 use Rattle.raid_message.specs.declared.letter.Message.TheVariants as letters
 use Rattle.raid_message.specs.declared.letter.Letter.{Letter}
 use Rattle.raid_message.specs.declared.letter.Pick.{Pick}
-use Rattle.raid_steps.specs.State.{asking, Copy, Running, SiteState}
+use Rattle.raid_steps.specs.State.{asking, Running, SiteState}
 use Rattle.raid_steps.specs.Copies.{copy_of}
 use Rattle.raid_steps.specs.Programs.{running_of}
 use Rattle.raid_steps.specs.World.{World, link, run}
@@ -32,8 +31,8 @@ use Rattle.raid_staged.proofs.PartRuns.{runs_agree}
 use Rattle.raid_staged.proofs.Runs.{landed}
 use Rattle.raid_staged.proofs.Worlds.{Landed}
 use Rattle.raid_versions.specs.Versions.{IsLive, Along}
-use Rattle.raid_values.specs.Gets.{Ask, reads_for, ReadsSeen, brings_for, BringsSeen, IsAnsweredBySeen, GetWhatTheySaw}
-use Rattle.raid_values.specs.Values.{committed_value, IsCommitted}
+use Rattle.raid_values.specs.Gets.{Ask, reads_for, ReadsSeen, brings_for, BringsSeen, IsAnsweredBySeen, GetWhatTheySaw, GivesSeen}
+use Rattle.raid_values.specs.Values.{committed_value}
 use Rattle.raid_values.proofs.Claims.{IsOfItem, of_item, read_whole}
 use Rattle.raid_values.proofs.Committed.{AllOf, CopyOf, own_copy}
 use Rattle.raid_values.proofs.GetsRuns.{runs_get}
@@ -107,3 +106,6 @@ pub runs_give : (w : Workload) (schedule : List Pick) (k : ℕ) (s : SiteState) 
     has_ended (noted (run w schedule).servers.sequencer.history) r.txn ≡ false → Given w s from letter r.txn ask v → seen w (noted (run w schedule).servers.sequencer.history) r.txn x ≡ Some v
 runs_give w schedule k s at up last from letter rest front =
     given_seen w (run w schedule) (landed w schedule) (runs_agree w schedule) (runs_of w schedule) (asks_one w schedule) (runs_get w schedule) from 0 letter rest k s (record { at = at; up = up; last = last }) front
+
+pub all_give : (w : Workload) (schedule : List Pick) → GivesSeen w (run w schedule)
+all_give w schedule k s live from letter rest front = runs_give w schedule k s live.at live.up live.last from letter rest (ap (λ c. link (run w schedule).links c from) (let e : suc (suc k) ≡ k + 2 = omega arith in e) ∙ front)

@@ -1,12 +1,9 @@
 -- In every run a site has one copy of each item that it holds, and of no other.
-use Rattle.std.proofs.Common.{◌≡◌, ◌≢◌, ◌⊎◌, inl, inr, ℕ, ℤ, zero, suc, ◌+◌, ◌<◌, ◌≤◌, ◌==◌, Bool, true, false, List, [], ◌∷◌, ◌++◌, length, map, filter, find, Option, Some, None, if◌then◌else◌, arith, sym, subst, ap, ◌∙◌, refl, append-nil, append_assoc}
+use Rattle.std.proofs.Common.{◌≡◌, ◌≢◌, ◌⊎◌, inl, inr, ℕ, zero, suc, ◌+◌, ◌<◌, ◌==◌, Bool, true, false, List, [], ◌∷◌, ◌++◌, length, map, filter, find, Option, Some, None, if◌then◌else◌, arith, sym, subst, ap, ◌∙◌, refl, append-nil, append_assoc}
 use Rattle.std.specs.Prelude.{slice_get, slice_set}
-use Rattle.std.specs.Option.{option_map_or}
 use Rattle.std.specs.List.{AllByRecursion}
 use Rattle.std.proofs.lemmas.List.Sums.{fold-append}
 use Rattle.raid_base.specs.declared.names.Item.{Item}
-use Rattle.raid_base.specs.declared.names.Site.{Site}
-use Rattle.raid_base.specs.Find.{first_of}
 use Rattle.raid_base.specs.Names.{is_item}
 use Rattle.raid_base.specs.Sites.{site}
 use Rattle.raid_workload.specs.declared.workload.Workload.{Workload}
@@ -14,13 +11,13 @@ use Rattle.raid_workload.specs.Parts.{items, count_from, initial}
 use Rattle.raid_message.specs.declared.letter.Letter.{Letter}
 use Rattle.raid_message.specs.declared.letter.Pick.{Pick}
 use Rattle.raid_steps.specs.State.{Copy, SiteState}
-use Rattle.raid_steps.specs.Copies.{copy_of, renewed}
+use Rattle.raid_steps.specs.Copies.{renewed}
 use Rattle.raid_steps.specs.Site.{hear_site}
-use Rattle.raid_steps.specs.World.{World, hear, hear_at, link, take_front, pick, run, open_world, first_site}
+use Rattle.raid_steps.specs.World.{World, hear, hear_at, link, take_front, pick, run, open_world}
 use Rattle.raid_sessions.proofs.Lists.{get_below, get_set, get_other, some_is}
 use Rattle.raid_sessions.proofs.Mail.{same_or_not}
 use Rattle.raid_moves.specs.Moves.{Ascend}
-use Rattle.raid_moves.proofs.Places.{all_found, all_kept, all_both, all_weaken, nothing}
+use Rattle.raid_moves.proofs.Places.{all_kept, all_both}
 use Rattle.raid_asks.proofs.Reached.{first_state}
 use Rattle.raid_letters.specs.Says.{is_held}
 use Rattle.raid_staged.proofs.Runs.{landed}

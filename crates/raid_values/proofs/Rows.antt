@@ -1,26 +1,21 @@
 -- Which values and copies a site's step sends.
-use Rattle.std.proofs.Common.{◌≡◌, ℕ, ℤ, suc, ◌+◌, nat_le, arith, Bool, true, false, ◌&&◌, List, [], ◌∷◌, ◌++◌, map, Option, Some, sym, subst, ◌∙◌, refl}
+use Rattle.std.proofs.Common.{◌≡◌, ℕ, ℤ, ◌+◌, List, [], ◌∷◌, ◌++◌, map, Some, refl}
 use Rattle.std.specs.Prelude.{⊤}
 use Rattle.std.specs.List.{AllByRecursion}
-use Rattle.std.proofs.lemmas.Bool.{true≢false}
 use Rattle.raid_base.specs.declared.names.Txn.{Txn}
 use Rattle.raid_base.specs.declared.names.Item.{Item}
 use Rattle.raid_base.specs.declared.names.Site.{Site}
-use Rattle.raid_base.specs.Names.{is_site}
 use Rattle.raid_workload.specs.declared.workload.Workload.{Workload}
 use Rattle.raid_message.specs.declared.letter.Message.{Message}
 use Rattle.raid_message.specs.declared.letter.Message.TheVariants as letters
 use Rattle.raid_message.specs.declared.letter.Letter.{Letter}
-use Rattle.raid_steps.specs.State.{Out, Turn, opened, tell, Copy, Running, SiteState}
-use Rattle.raid_steps.specs.Copies.{copy_of, staged_of, renewed, set_copy}
-use Rattle.raid_program.specs.Run.{put}
-use Rattle.raid_steps.specs.Programs.{prepare_out, voters, next_attempt}
-use Rattle.raid_steps.specs.Fits.{is_of_sequencer}
-use Rattle.raid_steps.specs.Site.{fits_here, hear_site}
+use Rattle.raid_steps.specs.State.{Out, Turn, Copy, Running, SiteState}
+use Rattle.raid_steps.specs.Copies.{copy_of}
+use Rattle.raid_steps.specs.Programs.{prepare_out, voters}
+use Rattle.raid_steps.specs.Site.{hear_site}
 use Rattle.raid_moves.specs.Moves as parts
 use Rattle.raid_moves.specs.Moves.{Ascend, Tells, Says, Given, read_here, read_elsewhere, Idle, comes_to, Goes, Row, Move, Reached}
-use Rattle.raid_moves.proofs.Left.{goes_leave, moves_leave}
-use Rattle.raid_moves.proofs.Steps.{site_moves, step_keeps}
+use Rattle.raid_moves.proofs.Steps.{step_keeps}
 use Rattle.raid_sessions.proofs.Lists.{all_append}
 
 module _ (w : Workload) (state : SiteState) (from : ℕ) (letter : Letter) where

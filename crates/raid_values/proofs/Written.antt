@@ -1,8 +1,7 @@
 -- What is staged at a site for a Commit that is applied there is what the Commit gave the site's items.
-use Rattle.std.proofs.Common.{◌≡◌, ℕ, ℤ, ◌+◌, ◌≤◌, ◌==◌, Bool, true, false, ◌&&◌, ◌||◌, List, [], ◌∷◌, length, filter, find, Option, Some, None, unwrap_or, if◌then◌else◌, sym, subst, ap, ◌∙◌, refl}
-use Rattle.std.specs.Prelude.{slice_get, option_map}
-use Rattle.std.specs.List.{AllByRecursion}
-use Rattle.std.proofs.lemmas.Bool.{and_parts, eqb-true, true≢false}
+use Rattle.std.proofs.Common.{◌≡◌, ℕ, ℤ, ◌+◌, ◌≤◌, Bool, true, false, List, [], ◌∷◌, length, Option, Some, None, unwrap_or, if◌then◌else◌, sym, subst, ap, ◌∙◌, refl}
+use Rattle.std.specs.Prelude.{slice_get}
+use Rattle.std.proofs.lemmas.Bool.{and_parts, true≢false}
 use Rattle.raid_base.specs.declared.names.Txn.{Txn}
 use Rattle.raid_base.specs.declared.names.Item.{Item}
 use Rattle.raid_base.specs.declared.names.Site.{Site}
@@ -21,10 +20,9 @@ use Rattle.raid_steps.specs.State.{SiteState}
 use Rattle.raid_steps.specs.Copies.{staged_of}
 use Rattle.raid_steps.specs.Programs.{held_by}
 use Rattle.raid_steps.specs.World.{World}
-use Rattle.raid_moves.proofs.Places.{something, nothing}
+use Rattle.raid_moves.proofs.Places.{nothing}
 use Rattle.raid_letters.specs.Says.{is_held, is_applied, was_applied}
 use Rattle.raid_staged.specs.Agree.{AreParts, EntryAgrees, IsPartOf, PartsAgree}
-use Rattle.raid_staged.specs.Staged.{history}
 use Rattle.raid_versions.specs.Versions.{was_written}
 use Rattle.raid_versions.proofs.SiteCopies.{same_item, staged_has}
 use Rattle.raid_versions.proofs.Written.{numbered}
