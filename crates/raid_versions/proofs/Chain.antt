@@ -1,6 +1,6 @@
 -- The sequencer's step keeps what copies have and get.
-use Rattle.std.proofs.Common.{◌≡◌, ◌≢◌, ◌⊎◌, inl, inr, ℕ, zero, suc, ◌+◌, ◌-◌, ◌<◌, ◌≤◌, ◌==◌, Bool, true, false, ◌||◌, List, [], ◌∷◌, ◌++◌, length, map, fold, Some, if◌then◌else◌, arith, sym, subst, ap, ◌∙◌, refl, append-nil}
-use Rattle.std.specs.Prelude.{⊤, slice_get}
+use Rattle.std.proofs.Common.{◌≡◌, ◌⊎◌, inl, inr, ℕ, zero, suc, ◌+◌, ◌-◌, ◌<◌, ◌≤◌, ◌==◌, Bool, true, false, ◌||◌, List, [], ◌∷◌, ◌++◌, length, map, fold, Some, if◌then◌else◌, arith, sym, subst, ap, ◌∙◌, refl, append-nil}
+use Rattle.std.specs.Prelude.{slice_get}
 use Rattle.std.specs.List.{AllByRecursion}
 use Rattle.std.proofs.lemmas.Bool.{eqb-true}
 use Rattle.std.proofs.lemmas.List.Sums.{fold-append}
@@ -13,7 +13,6 @@ use Rattle.raid_base.specs.Names.{is_site, has_site}
 use Rattle.raid_base.specs.Sites.{session, site}
 use Rattle.raid_workload.specs.declared.workload.Workload.{Workload}
 use Rattle.raid_workload.specs.Parts.{count_from}
-use Rattle.raid_workload.specs.Parts as workload
 use Rattle.raid_rules.specs.History.{noted, add, next}
 use Rattle.raid_rules.specs.Sessions.{last_session, owes, turn_vector, turn_last}
 use Rattle.raid_rules.proofs.Push.{noted_push, vector_push}
@@ -21,7 +20,7 @@ use Rattle.raid_legal.specs.Seen.{vector}
 use Rattle.raid_message.specs.declared.letter.Message.{Message}
 use Rattle.raid_message.specs.declared.letter.Message.TheVariants as letters
 use Rattle.raid_message.specs.declared.letter.Letter.{Letter}
-use Rattle.raid_steps.specs.State.{Out, Turn, Sequencer, SiteState, opened}
+use Rattle.raid_steps.specs.State.{Turn, Sequencer, SiteState, opened}
 use Rattle.raid_steps.specs.Fits.{knows_site}
 use Rattle.raid_steps.specs.Sequencer as rows
 use Rattle.raid_steps.specs.Sequencer.{so_far, place, is_hello, hear_sequencer}
@@ -34,8 +33,7 @@ use Rattle.raid_sessions.proofs.Lists.{all_weaken, get_below, get_known, set_lon
 use Rattle.raid_sessions.proofs.Mail.{same_or_not, moved, set_square, set_here, set_server}
 use Rattle.raid_sessions.proofs.Reached.{Reached, from_below, front_reached}
 use Rattle.raid_letters.specs.Says.{NoteSays}
-use Rattle.raid_letters.proofs.Runs.{LetterSays}
-use Rattle.raid_versions.specs.Versions.{IsLive, Along, IsKeptUp, ApplyOwed, Told, LastVersions, HaveLastVersions}
+use Rattle.raid_versions.specs.Versions.{IsLive, IsKeptUp, ApplyOwed, Told, LastVersions, HaveLastVersions}
 use Rattle.raid_versions.proofs.Entries.{placed_mid}
 use Rattle.raid_versions.proofs.Grown.{was, Grows, grown}
 use Rattle.raid_versions.proofs.Links.{all_alike}

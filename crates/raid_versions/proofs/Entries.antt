@@ -1,5 +1,5 @@
 -- Each entry that the sequencer places keeps what copies have and get.
-use Rattle.std.proofs.Common.{◌≡◌, ◌⊎◌, inl, inr, ℕ, ◌+◌, ◌<◌, ◌≤◌, ◌==◌, nat_lt, Bool, true, false, not, ◌&&◌, ◌||◌, List, [], ◌∷◌, ◌++◌, length, fold, Option, Some, None, if◌then◌else◌, arith, sym, subst, ap, ◌∙◌, refl}
+use Rattle.std.proofs.Common.{◌≡◌, ◌⊎◌, inl, inr, ℕ, ◌+◌, ◌<◌, ◌≤◌, ◌==◌, nat_lt, Bool, true, false, not, ◌&&◌, ◌||◌, List, ◌++◌, length, Some, if◌then◌else◌, arith, sym, subst, ap, ◌∙◌, refl}
 use Rattle.std.specs.Prelude.{⊤, slice_get}
 use Rattle.std.specs.List.{AllByRecursion}
 use Rattle.std.proofs.lemmas.Bool.{and_parts, and_from, eqb-true, true≢false}
@@ -16,14 +16,14 @@ use Rattle.raid_workload.specs.declared.workload.Workload.{Workload}
 use Rattle.raid_workload.specs.Parts.{home}
 use Rattle.raid_workload.specs.Parts as workload
 use Rattle.raid_rules.specs.Entries.{writes_of, writes_item, is_commit}
-use Rattle.raid_rules.specs.History.{noted, add, next, has_committed, version}
-use Rattle.raid_rules.specs.Sessions.{last_session, owes, owes_for, turn_owed, turn_lock, turn_vector, is_copy_locked}
+use Rattle.raid_rules.specs.History.{noted, add, next, version}
+use Rattle.raid_rules.specs.Sessions.{owes, owes_for, turn_owed, turn_lock, turn_vector, is_copy_locked}
 use Rattle.raid_rules.proofs.Push.{is_copy_locked_push, vector_push, same_txn}
-use Rattle.raid_legal.specs.Seen.{vector, is_up, up_holders}
+use Rattle.raid_legal.specs.Seen.{vector, is_up}
 use Rattle.raid_message.specs.declared.letter.Message.{Message}
 use Rattle.raid_message.specs.declared.letter.Message.TheVariants as letters
 use Rattle.raid_message.specs.declared.letter.Letter.{Letter}
-use Rattle.raid_steps.specs.State.{Out, Copy, SiteState, to_site}
+use Rattle.raid_steps.specs.State.{Out, Copy, SiteState}
 use Rattle.raid_steps.specs.Copies.{copy_of}
 use Rattle.raid_steps.specs.Fits.{knows_site}
 use Rattle.raid_steps.specs.Sequencer as rows
@@ -32,20 +32,20 @@ use Rattle.raid_placed.specs.Placed.{Placed, Placeable}
 use Rattle.raid_sessions.proofs.Ledger.{session_set}
 use Rattle.raid_sessions.proofs.Lists.{all_append, all_weaken, same_self}
 use Rattle.raid_sessions.proofs.Mail.{letters_to}
-use Rattle.raid_asks.proofs.Facts.{or_left, or_right, or_parts, any_weaken}
+use Rattle.raid_asks.proofs.Facts.{or_right, any_weaken}
 use Rattle.raid_asks.proofs.Notes.{all_sent}
 use Rattle.raid_letters.specs.Says.{is_held, is_applied}
 use Rattle.raid_moves.proofs.Places.{all_both}
-use Rattle.raid_versions.specs.Versions.{was_written, was_written_by, IsVersion, OwesLast, IsLive, is_pending, latest, NonePending, NoGap, reads_copy, Along, ReadsWhole, IsKeptUp, ApplyOwed, AckTold, CopyTold, Told, Sends, LastVersions}
+use Rattle.raid_versions.specs.Versions.{was_written, was_written_by, IsVersion, OwesLast, IsLive, is_pending, latest, NonePending, NoGap, Along, ReadsWhole, IsKeptUp, ApplyOwed, AckTold, CopyTold, Told, Sends}
 use Rattle.raid_versions.proofs.Copied.{held_copied, copied_held}
-use Rattle.raid_versions.proofs.Grown.{kept_more, kept_commit, kept_risen, Was, was, risen, Grows, Owes, grown}
+use Rattle.raid_versions.proofs.Grown.{kept_more, kept_commit, kept_risen, Was, was, risen, grown}
 use Rattle.raid_versions.proofs.Links.{IsUnread, AreUnread, IsUnapplied, AreUnapplied, ApplyOnly, along_unread, unread, pending_only, latest_off, latest_alike, latest_quiet, all_alike}
 use Rattle.raid_versions.proofs.Mid.{ApplySays, Mid, Alive, IsTold, owes_now, version_now, after, inside, known, stand_now, live_now, grows_now, only_now, mid_now}
 use Rattle.raid_versions.proofs.Owed.{HoldsOwn}
-use Rattle.raid_versions.proofs.Placing.{commit_whole, read_source, up_was_down, clear_locked, up_holder, held_some, applied_held}
+use Rattle.raid_versions.proofs.Placing.{commit_whole, read_source, clear_locked, up_holder, held_some, applied_held}
 use Rattle.raid_versions.proofs.Sent.{place_is, along_each, along_any, each_pending, SendsOf, sends_of, apply_pending}
 use Rattle.raid_versions.proofs.Steps.{Why, source_unlocked}
-use Rattle.raid_versions.proofs.Written.{at_number, at_parts, at_kept, at_last, at_same, numbered, version_is, version_most, version_within, version_long, written_by, long_push}
+use Rattle.raid_versions.proofs.Written.{at_number, at_parts, at_kept, at_last, at_same, numbered, version_most, version_within, version_long, written_by, long_push}
 
 -- an entry that is no Read, and one that is no Commit
 abbrev IsNoRead : Entry → Type 0
@@ -117,9 +117,9 @@ module _ (w : Workload) (sites : List SiteState) (long : length sites ≡ w.site
       | inr o ↦ elim (keeps o.txn o.owed o.wrote) [
         | inl same ↦ inl (same ∙ sym now)
         | inr owed ↦ inr (record {
-            txn = o.txn;
-            wrote = subst (λ n. was_written_by q o.txn x n ≡ true) (sym now) (at_kept (writes_item o.txn x) p e (version p x) o.wrote);
-            owed = owes_now p e here o.txn ∙ ap (λ b. turn_owed here o.txn b e) o.owed ∙ ap (turn_owed here o.txn true) is ∙ owed;
+          txn = o.txn;
+          wrote = subst (λ n. was_written_by q o.txn x n ≡ true) (sym now) (at_kept (writes_item o.txn x) p e (version p x) o.wrote);
+          owed = owes_now p e here o.txn ∙ ap (λ b. turn_owed here o.txn b e) o.owed ∙ ap (turn_owed here o.txn true) is ∙ owed;
         })
       ]
     ]

@@ -8,7 +8,7 @@ use Rattle.raid_base.specs.declared.names.Txn.{Txn}
 use Rattle.raid_base.specs.declared.names.Item.{Item}
 use Rattle.raid_base.specs.declared.names.Site.{Site}
 use Rattle.raid_base.specs.declared.entry.Entry.{Entry}
-use Rattle.raid_base.specs.declared.entry.Entry.TheVariants.{Read, Commit, Abort, Ack, Down, Up, Clear}
+use Rattle.raid_base.specs.declared.entry.Entry.TheVariants.{Read, Commit, Abort, Ack, Down, Up}
 use Rattle.raid_base.specs.declared.entry.Noted.{Noted}
 use Rattle.raid_base.specs.Names.{is_txn, is_site, has_site, holds}
 use Rattle.raid_base.specs.Sites.{session, site}
@@ -16,7 +16,7 @@ use Rattle.raid_workload.specs.declared.workload.Workload.{Workload}
 use Rattle.raid_workload.specs.Parts.{home}
 use Rattle.raid_rules.specs.Entries.{writes_of, writes_item, is_commit_of}
 use Rattle.raid_rules.specs.History.{noted, add, next, has_committed, has_ended, version}
-use Rattle.raid_rules.specs.Sessions.{last_session, owes, turn_owed, turn_vector, turn_last, is_site_up}
+use Rattle.raid_rules.specs.Sessions.{last_session, owes, turn_owed, turn_vector, turn_last}
 use Rattle.raid_rules.proofs.Push.{vector_push, owes_push, number_of_push, same_txn}
 use Rattle.raid_legal.specs.Seen.{vector, is_up}
 use Rattle.raid_message.specs.declared.letter.Message.{Message}
@@ -27,7 +27,7 @@ use Rattle.raid_steps.specs.Fits.{knows_site}
 use Rattle.raid_steps.specs.Sequencer as rows
 use Rattle.raid_steps.specs.World.{link, post}
 use Rattle.raid_steps.proofs.Parts.{number_known}
-use Rattle.raid_placed.specs.Placed.{Placed, Placeable}
+use Rattle.raid_placed.specs.Placed.{Placeable}
 use Rattle.raid_sessions.proofs.Ledger.{session_set}
 use Rattle.raid_sessions.proofs.Lists.{all_append, all_weaken, get_below, set_long}
 use Rattle.raid_sessions.proofs.Mail.{AreSquare, letter_of, letters_to, posts_here, posts_square}
@@ -35,14 +35,13 @@ use Rattle.raid_asks.proofs.Facts.{or_parts}
 use Rattle.raid_asks.proofs.Notes.{all_sent}
 use Rattle.raid_letters.specs.Says.{is_applied}
 use Rattle.raid_layers.proofs.Histories.{any_kept, committed_ended}
-use Rattle.raid_versions.specs.Versions.{was_written, was_written_by, IsVersion, IsLive, LastVersions, Told}
+use Rattle.raid_versions.specs.Versions.{was_written_by, IsLive, LastVersions, Told}
 use Rattle.raid_versions.proofs.Grown.{Was, was, risen, Grows}
-use Rattle.raid_versions.proofs.Links.{IsAlike, AreAlike, IsUnread, AreUnread, IsUnapplied, AreUnapplied, AppliesOnly, ApplyOnly, AreForOthers}
-use Rattle.raid_versions.proofs.Owed.{HoldsOwn}
+use Rattle.raid_versions.proofs.Links.{IsAlike, AreAlike, IsUnread, IsUnapplied, AppliesOnly, ApplyOnly, AreForOthers}
 use Rattle.raid_versions.proofs.Placing.{commit_whole, commit_runs, holder_up, up_was_down}
 use Rattle.raid_versions.proofs.Sent.{posts_others, place_is, SendsOf, sends_of}
 use Rattle.raid_versions.proofs.Steps.{Why}
-use Rattle.raid_versions.proofs.Written.{at_number, at_push, at_parts, at_kept, at_last, at_same, numbered, version_long, long_push}
+use Rattle.raid_versions.proofs.Written.{at_number, at_push, at_parts, at_kept, at_last, numbered, version_long, long_push}
 
 -- what is to be applied at a site was applied there
 abbrev pub ApplySays : List Noted → Site → Message → Type 0

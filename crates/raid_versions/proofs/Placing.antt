@@ -1,7 +1,7 @@
 -- What a placed entry says of copies: a Commit is applied at the up sites that hold what it writes, and a Read is of an unlocked copy.
-use Rattle.std.proofs.Common.{◌≡◌, ◌⊎◌, inl, inr, ℕ, ℤ, ◌+◌, ◌==◌, nat_le, nat_lt, Bool, true, false, not, ◌&&◌, ◌||◌, List, [], ◌∷◌, ◌++◌, length, map, filter, Option, Some, None, if◌then◌else◌, arith, sym, subst, ap, ◌∙◌, refl}
+use Rattle.std.proofs.Common.{◌≡◌, ◌⊎◌, inl, inr, ℕ, ℤ, ◌+◌, ◌==◌, nat_le, Bool, true, false, not, ◌&&◌, ◌||◌, List, [], ◌∷◌, ◌++◌, length, Option, Some, None, if◌then◌else◌, arith, sym, subst, ap, ◌∙◌, refl}
 use Rattle.std.specs.Prelude.{⊤, filter_map, slice_get, option_map, option_and_then}
-use Rattle.std.specs.List.{AllByRecursion, list_any, cons_option}
+use Rattle.std.specs.List.{cons_option}
 use Rattle.std.proofs.lemmas.Bool.{and_parts, and_from, true≢false}
 use Rattle.raid_base.specs.declared.names.Txn.{Txn}
 use Rattle.raid_base.specs.declared.names.Item.{Item}
@@ -11,26 +11,25 @@ use Rattle.raid_base.specs.declared.entry.Act.TheVariants as acts
 use Rattle.raid_base.specs.declared.entry.Cause.{Cause}
 use Rattle.raid_base.specs.declared.entry.Cause.TheVariants as causes
 use Rattle.raid_base.specs.declared.entry.Entry.{Entry}
-use Rattle.raid_base.specs.declared.entry.Entry.TheVariants.{Begin, Read, Wait, Commit, Abort, Ack, SwitchOn, SwitchEnd, Down, Up, Clear}
+use Rattle.raid_base.specs.declared.entry.Entry.TheVariants.{Read, Wait, Commit, Abort, SwitchOn, SwitchEnd, Up, Clear}
 use Rattle.raid_base.specs.declared.entry.Noted.{Noted}
 use Rattle.raid_base.specs.declared.verdict.Verdict.{Verdict}
 use Rattle.raid_base.specs.declared.verdict.Verdict.TheVariants as verdicts
 use Rattle.raid_base.specs.Names.{is_txn, is_item, has_site, holds}
 use Rattle.raid_workload.specs.declared.workload.Workload.{Workload}
 use Rattle.raid_workload.specs.declared.workload.Switch.{Switch}
-use Rattle.raid_workload.specs.Parts.{sites, home, placement}
+use Rattle.raid_workload.specs.Parts.{sites, home}
 use Rattle.raid_rules.specs.Entries.{writes_item}
-use Rattle.raid_rules.specs.History.{noted, add, ends, stamp, waiting, is_waiting, is_running, has_begun, has_ended, version}
-use Rattle.raid_rules.specs.Sessions.{holders, source_for, is_copy_locked}
+use Rattle.raid_rules.specs.History.{noted, add, ends, stamp, waiting, is_waiting, has_begun, has_ended, version}
+use Rattle.raid_rules.specs.Sessions.{source_for, is_copy_locked}
 use Rattle.raid_rules.specs.Verdicts.{writing, reading}
 use Rattle.raid_rules.proofs.Places.{by_last}
-use Rattle.raid_rules.proofs.Push.{noted_push, same_txn}
+use Rattle.raid_rules.proofs.Push.{noted_push}
 use Rattle.raid_rules.proofs.Sources.{has_kept}
-use Rattle.raid_legal.specs.Seen.{is_up, is_locked, sources, up_holders, holds_some}
+use Rattle.raid_legal.specs.Seen.{is_up, sources, up_holders, holds_some}
 use Rattle.raid_legal.specs.InForce.{InForce, in_force, is_joint, end_due, verdict}
-use Rattle.raid_legal.specs.Answers.{served, answer_read, answer_commit, answered, decided, closes_waits, site_refusal}
+use Rattle.raid_legal.specs.Answers.{served, answer_commit, answered, decided, closes_waits, site_refusal}
 use Rattle.raid_legal.specs.Forced.{forced, home_down, switch_off, switch_end, switch_on, woken, earliest}
-use Rattle.raid_legal.specs.Legal.{is_free}
 use Rattle.raid_legal.proofs.Left.{forced_compels}
 use Rattle.raid_placed.specs.Placed.{Placed, Placeable, Goes}
 use Rattle.raid_placed.proofs.Orderly.{placeable_follows}

@@ -1,9 +1,8 @@
 -- What the sequencer sends besides its entries' letters keeps what copies have and get: copies that it sends for, and counts of ends.
-use Rattle.std.proofs.Common.{◌≡◌, ◌⊎◌, inl, inr, ℕ, ◌+◌, ◌<◌, ◌≤◌, ◌==◌, Bool, true, false, List, [], ◌∷◌, ◌++◌, length, map, fold, Some, arith, sym, subst, ap, ◌∙◌, refl}
+use Rattle.std.proofs.Common.{◌≡◌, ◌⊎◌, inl, inr, ℕ, ◌+◌, ◌<◌, ◌≤◌, ◌==◌, true, false, List, [], ◌∷◌, ◌++◌, length, map, fold, Some, arith, sym, subst, ap, ◌∙◌, refl}
 use Rattle.std.specs.Prelude.{⊤, slice_get}
 use Rattle.std.specs.List.{AllByRecursion}
 use Rattle.std.proofs.lemmas.Bool.{eqb-true, true≢false}
-use Rattle.raid_base.specs.declared.names.Txn.{Txn}
 use Rattle.raid_base.specs.declared.names.Item.{Item}
 use Rattle.raid_base.specs.declared.names.Site.{Site}
 use Rattle.raid_base.specs.declared.entry.Entry.{Entry}
@@ -11,7 +10,7 @@ use Rattle.raid_base.specs.declared.entry.Noted.{Noted}
 use Rattle.raid_base.specs.Names.{is_item}
 use Rattle.raid_base.specs.Sites.{session, site}
 use Rattle.raid_workload.specs.declared.workload.Workload.{Workload}
-use Rattle.raid_rules.specs.History.{noted, version}
+use Rattle.raid_rules.specs.History.{noted}
 use Rattle.raid_rules.specs.Sessions.{last_session, is_copy_locked}
 use Rattle.raid_legal.specs.Seen.{vector}
 use Rattle.raid_message.specs.declared.letter.Message.{Message}
@@ -25,7 +24,7 @@ use Rattle.raid_sessions.proofs.Lists.{all_append, all_weaken, get_below}
 use Rattle.raid_sessions.proofs.Mail.{letters_to, posts_here, posts_square}
 use Rattle.raid_asks.proofs.Notes.{all_sent}
 use Rattle.raid_letters.specs.Says.{is_held}
-use Rattle.raid_versions.specs.Versions.{IsVersion, OwesLast, IsLive, is_pending, latest, NonePending, NoGap, reads_copy, Along, ReadsWhole, IsKeptUp, ApplyOwed, AboveAt, Sends, LastVersions}
+use Rattle.raid_versions.specs.Versions.{IsLive, is_pending, latest, NonePending, NoGap, Along, ReadsWhole, IsKeptUp, ApplyOwed, AboveAt, Sends}
 use Rattle.raid_versions.proofs.Copied.{held_copied}
 use Rattle.raid_versions.proofs.Grown.{kept_more, was, Grows, grown}
 use Rattle.raid_versions.proofs.Links.{pending_parts, IsUnapplied, AreUnapplied, AppliesOnly, pending_none, latest_none, all_alike}
