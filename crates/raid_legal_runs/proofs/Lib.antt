@@ -1,0 +1,9 @@
+pub mod Among
+pub mod Answering
+pub mod AtSequencer
+pub mod AtSite
+pub mod Laws
+pub mod Runs
+pub mod Seeing
+pub mod SiteWorlds
+pub mod Worlds
