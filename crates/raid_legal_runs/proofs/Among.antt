@@ -1,5 +1,5 @@
 -- An ask that a letter makes is among those that are made for its transaction.
-use Rattle.std.proofs.Common.{◌≡◌, ◌⊎◌, inl, inr, List, [], ◌∷◌, ◌++◌, subst, sym, refl}
+use Rattle.std.proofs.Common.{◌≡◌, ◌⊎◌, inl, inr, List, [], ◌∷◌, ◌++◌, refl}
 use Rattle.std.specs.List.{AllByRecursion}
 use Rattle.raid_base.specs.declared.names.Txn.{Txn}
 use Rattle.raid_message.specs.declared.letter.Message.{Message}

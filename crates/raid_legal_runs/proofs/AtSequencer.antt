@@ -1,6 +1,5 @@
 -- What the sequencer's step makes of what transactions have seen, and that all that it places is asked.
-use Rattle.std.proofs.Common.{◌≡◌, ◌⊎◌, inl, inr, ℕ, ℤ, ◌+◌, ◌==◌, Bool, true, false, not, ◌&&◌, ◌||◌, List, [], ◌∷◌, ◌++◌, Option, Some, None, if◌then◌else◌, arith, sym, subst, ap, ◌∙◌, refl}
-use Rattle.std.specs.Prelude.{⊤}
+use Rattle.std.proofs.Common.{◌≡◌, ◌⊎◌, ℕ, ℤ, ◌+◌, ◌==◌, Bool, true, false, not, ◌&&◌, ◌||◌, List, [], ◌∷◌, ◌++◌, Option, Some, None, if◌then◌else◌, arith, sym, subst, ap, ◌∙◌, refl}
 use Rattle.std.proofs.lemmas.Bool.{and_parts, true≢false}
 use Rattle.raid_base.specs.declared.names.Txn.{Txn}
 use Rattle.raid_base.specs.declared.names.Item.{Item}
@@ -22,14 +21,13 @@ use Rattle.raid_rules.specs.History.{noted, add, next, stamp, has_begun, has_end
 use Rattle.raid_rules.specs.Sessions.{source_for}
 use Rattle.raid_rules.specs.Verdicts.{reading, writing}
 use Rattle.raid_rules.proofs.Push.{noted_push, same_txn}
-use Rattle.raid_legal.specs.Seen.{seen, sources}
+use Rattle.raid_legal.specs.Seen.{seen, sources, up_holders}
 use Rattle.raid_legal.specs.InForce.{verdict}
-use Rattle.raid_legal.specs.Answers.{served, answer_read, answer_commit, answered, decided, closes_waits, site_refusal}
+use Rattle.raid_legal.specs.Answers.{cause_of, served, answer_commit, answered, decided, closes_waits, site_refusal}
 use Rattle.raid_legal.specs.Forced.{forced}
 use Rattle.raid_legal.specs.Legal.{is_free, is_asked, EachSeeing}
 use Rattle.raid_legal.proofs.Left.{forced_compels}
 use Rattle.raid_legal.proofs.Push.{each_push}
-use Rattle.raid_message.specs.declared.letter.Message.{Message}
 use Rattle.raid_message.specs.declared.letter.Message.TheVariants as letters
 use Rattle.raid_message.specs.declared.letter.Letter.{Letter}
 use Rattle.raid_layers.proofs.Histories.{Grows, any_kept}
@@ -67,17 +65,17 @@ answer_tells : (w : Workload) (p : List Noted) (t : Txn) (r : Request) (e : Entr
 answer_tells w p t r e q = answers_so (site_refusal w p r) q
   where
     decides : (v : Verdict) → decided w p t r v ≡ Some e → Tells t r e
-    decides (verdicts.Reject why) q = refuses _ (cc q)
-    decides verdicts.Grant q = commits _ (cc q)
+    decides (verdicts.Reject why) q = refuses (cause_of why) (cc q)
+    decides verdicts.Grant q = commits (up_holders w p r.writes) (cc q)
     decides verdicts.Wait q = go (is_waiting p t) (closes_waits w p t r) q
       where
         go : (a b : Bool) → (if a then None else if b then Some (Abort t causes.Deadlock (acts.Commit r)) else Some (Wait t r)) ≡ Some e → Tells t r e
         go true b q = absurd (cc q)
-        go false true q = refuses _ (cc q)
+        go false true q = refuses causes.Deadlock (cc q)
         go false false q = waits (cc q)
 
     answers_so : (o : Option Cause) → answered w p t r o ≡ Some e → Tells t r e
-    answers_so (Some why) q = refuses _ (cc q)
+    answers_so (Some why) q = refuses why (cc q)
     answers_so None q = decides (verdict w p (writing t (stamp p t) r.writes)) q
 
 tells_unread : (t : Txn) (r : Request) (e : Entry) → Tells t r e → (u : Txn) (y : Item) → reads_item u y e ≡ false

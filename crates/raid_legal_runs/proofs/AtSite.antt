@@ -1,5 +1,5 @@
 -- A home's step: its programs go on having what was seen, and tell it.
-use Rattle.std.proofs.Common.{◌≡◌, ◌⊎◌, inl, inr, ℕ, ℤ, ◌+◌, ◌==◌, Bool, true, false, List, [], ◌∷◌, ◌++◌, map, Option, Some, None, if◌then◌else◌, sym, subst, ap, ◌∙◌, refl}
+use Rattle.std.proofs.Common.{◌≡◌, ◌⊎◌, ℕ, ℤ, ◌+◌, ◌==◌, Bool, true, false, List, [], ◌∷◌, ◌++◌, map, Option, Some, None, if◌then◌else◌, arith, sym, subst, ap, ◌∙◌, refl}
 use Rattle.std.specs.Prelude.{⊤}
 use Rattle.std.specs.List.{AllByRecursion}
 use Rattle.std.proofs.lemmas.Bool.{eqb-true, true≢false}
@@ -51,7 +51,7 @@ module _ (w : Workload) (p : List Noted) where
   but_and_one t x v answers but value y here = go (is_item x y) refl
     where
       go : (b : Bool) → is_item x y ≡ b → seen w p t y ≡ given (put answers x v) y
-      go true q = ap (seen w p t) (ap (λ n. let z : Item = record { 0 = n } in z) (sym (eqb-true y.0 x.0 q))) ∙ value ∙ sym (put_here x y v answers q)
+      go true q = ap (seen w p t) (ap (λ n. let z : Item = record { 0 = n } in z) (eqb-true y.0 x.0 q)) ∙ value ∙ sym (put_here x y v answers q)
       go false q = but y q (sym (put_holds x y v answers q) ∙ here) ∙ sym (put_there x y v answers q)
 
   -- a program of a transaction that isn't over has what was seen

@@ -1,26 +1,23 @@
 -- What a transaction has seen changes only by its Reads, and only for the item that is read.
-use Rattle.std.proofs.Common.{◌≡◌, ◌⊎◌, inl, inr, ℕ, ℤ, ◌+◌, Bool, true, false, ◌&&◌, List, [], ◌∷◌, ◌++◌, Option, Some, None, if◌then◌else◌, sym, subst, ap, ◌∙◌, refl}
+use Rattle.std.proofs.Common.{◌≡◌, ◌⊎◌, ℤ, ◌+◌, Bool, true, false, ◌&&◌, ◌||◌, List, [], ◌∷◌, ◌++◌, Option, Some, None, if◌then◌else◌, subst, ap, ◌∙◌, refl}
 use Rattle.std.specs.List.{list_any}
-use Rattle.std.proofs.lemmas.Bool.{and_parts, true≢false}
+use Rattle.std.proofs.lemmas.Bool.{true≢false}
 use Rattle.raid_base.specs.declared.names.Txn.{Txn}
 use Rattle.raid_base.specs.declared.names.Item.{Item}
 use Rattle.raid_base.specs.declared.entry.Entry.{Entry}
-use Rattle.raid_base.specs.declared.entry.Entry.TheVariants.{Read}
 use Rattle.raid_base.specs.declared.entry.Noted.{Noted}
-use Rattle.raid_base.specs.Names.{is_txn, is_item, holds}
 use Rattle.raid_program.specs.declared.program.Want.TheVariants as wants
-use Rattle.raid_program.specs.Run.{Answers, Outcome, given, outcome_of}
-use Rattle.raid_program.proofs.Asked.{end_told}
+use Rattle.raid_program.specs.Run.{Answers, Outcome, outcome_of}
 use Rattle.raid_program.proofs.Tables.{on_table}
 use Rattle.raid_workload.specs.declared.workload.Workload.{Workload}
 use Rattle.raid_workload.specs.Parts.{program}
-use Rattle.raid_rules.specs.Entries.{is_end_of, reads_item}
-use Rattle.raid_rules.specs.History.{add, next, fold_seeing, has_ended}
+use Rattle.raid_rules.specs.Entries.{reads_item}
+use Rattle.raid_rules.specs.History.{add, next, fold_seeing}
 use Rattle.raid_rules.proofs.Push.{fold_seeing_push}
 use Rattle.raid_legal.specs.Seen.{value_of, seen, outcome}
 use Rattle.raid_made.specs.Made.{made_of}
 use Rattle.raid_layers.specs.Asks.{has_read}
-use Rattle.raid_layers.proofs.Histories.{any_same, Grows}
+use Rattle.raid_layers.proofs.Histories.{any_same}
 use Rattle.raid_runs.specs.Asked.{IsSeen}
 
 pub untrue : (b : Bool) → (b ≡ true → ⊥) → b ≡ false
@@ -62,7 +59,7 @@ unseen_from w t x before (n ∷ ns) q = go (reads_item t x n.entry) q (unseen_fr
     step : List Noted → Option ℤ → Noted → Option ℤ
     step = λ before v n. if reads_item t x n.entry then Some (value_of w before x) else v
 
-    go : (b : Bool) → (if b then true else list_any (λ (n : Noted). reads_item t x n.entry) ns) ≡ false →
+    go : (b : Bool) → (b || list_any (λ (n : Noted). reads_item t x n.entry) ns) ≡ false →
         (list_any (λ (n : Noted). reads_item t x n.entry) ns ≡ false → fold_seeing step (before ++ n ∷ []) None ns ≡ None) → fold_seeing step (before ++ n ∷ []) (if b then Some (value_of w before x) else None) ns ≡ None
     go true q rest = absurd (true≢false q)
     go false q rest = rest q

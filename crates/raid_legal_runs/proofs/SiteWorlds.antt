@@ -1,6 +1,6 @@
 -- A site's step in the world lets programs tell what they have seen.
-use Rattle.std.proofs.Common.{◌≡◌, ◌≢◌, ◌⊎◌, inl, inr, ℕ, ℤ, zero, suc, ◌+◌, ◌<◌, ◌≤◌, ◌==◌, Bool, true, false, List, [], ◌∷◌, ◌++◌, Option, Some, None, arith, sym, subst, ap, ◌∙◌, refl, append-nil}
-use Rattle.std.specs.Prelude.{⊤, slice_get, slice_set}
+use Rattle.std.proofs.Common.{◌≡◌, ◌≢◌, ◌⊎◌, inl, inr, ℕ, ℤ, suc, ◌+◌, ◌<◌, ◌≤◌, ◌==◌, Bool, true, false, List, [], ◌∷◌, ◌++◌, Option, Some, if◌then◌else◌, None, arith, sym, subst, ap, ◌∙◌, refl}
+use Rattle.std.specs.Prelude.{slice_get, slice_set}
 use Rattle.std.specs.List.{AllByRecursion}
 use Rattle.std.proofs.lemmas.Bool.{eqb-true, true≢false}
 use Rattle.raid_base.specs.declared.names.Txn.{Txn}
@@ -11,7 +11,7 @@ use Rattle.raid_base.specs.Find.{first_of}
 use Rattle.raid_base.specs.Names.{is_txn, is_item, holds}
 use Rattle.raid_base.specs.Sites.{site}
 use Rattle.raid_program.specs.declared.program.Want.TheVariants as wants
-use Rattle.raid_program.specs.Run.{given, put}
+use Rattle.raid_program.specs.Run.{given}
 use Rattle.raid_program.proofs.Asked.{end_told}
 use Rattle.raid_workload.specs.declared.workload.Workload.{Workload}
 use Rattle.raid_workload.specs.Parts.{program}
@@ -21,7 +21,7 @@ use Rattle.raid_legal.specs.Seen.{seen, outcome}
 use Rattle.raid_message.specs.declared.letter.Message.{Message}
 use Rattle.raid_message.specs.declared.letter.Message.TheVariants as letters
 use Rattle.raid_message.specs.declared.letter.Letter.{Letter}
-use Rattle.raid_steps.specs.State.{Out, Turn, opened, Phase, asking, preparing, sent, Running, SiteState}
+use Rattle.raid_steps.specs.State.{Out, Turn, Phase, asking, preparing, sent, Running, SiteState}
 use Rattle.raid_steps.specs.Programs.{running_of}
 use Rattle.raid_steps.specs.Site.{hear_site}
 use Rattle.raid_steps.specs.World.{World, Servers, link}
@@ -33,7 +33,7 @@ use Rattle.raid_moves.proofs.Places.{all_both, all_found, found_txn}
 use Rattle.raid_made.specs.Made.{made_of}
 use Rattle.raid_stands.specs.Stands.{StandsIn, Stands, AreStanding}
 use Rattle.raid_asks.proofs.Notes.{all_sent}
-use Rattle.raid_layers.specs.Asks.{has_read, asks_of, IsTimely, IsOneAsk, no_ask, one_ask, Outstanding, asked, dropped, read, asks_end, Closing, taken, closes, IsAbout, Talks}
+use Rattle.raid_layers.specs.Asks.{has_read, asks_of, IsOneAsk, Outstanding, asked, dropped, read, asks_end, Closing, taken, closes, IsAbout, Talks}
 use Rattle.raid_layers.proofs.SiteTokens.{deaf_step}
 use Rattle.raid_layers.proofs.SiteWorlds.{HomeStep, same, falls, rises, hears, home_step, heard_late}
 use Rattle.raid_layers.proofs.Tokens.{IsAskOf}
@@ -44,7 +44,7 @@ use Rattle.raid_legal_runs.specs.Tell.{IsSeenBut, HasSeen, AsksSeen}
 use Rattle.raid_legal_runs.proofs.Among.{Among, among_one, IsAskAmong, each_among}
 use Rattle.raid_legal_runs.proofs.AtSite.{Has, TellsSeen, Says, Now, step_now}
 use Rattle.raid_legal_runs.proofs.Seeing.{wants_too}
-use Rattle.raid_legal_runs.proofs.Worlds.{SeenAt, SaysSeen, AllSeen, GetsSeen, Known}
+use Rattle.raid_legal_runs.proofs.Worlds.{SeenAt, SaysSeen, AllSeen, Known}
 
 module _ (w : Workload) where
   -- letters that ask for nothing

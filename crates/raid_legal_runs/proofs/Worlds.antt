@@ -1,62 +1,50 @@
 -- Each step in the world lets programs tell what they have seen, and what is placed is asked.
-use Rattle.std.proofs.Common.{◌≡◌, ◌≢◌, ◌⊎◌, inl, inr, ℕ, ℤ, zero, suc, ◌+◌, ◌-◌, ◌<◌, ◌≤◌, ◌==◌, Bool, true, false, not, ◌&&◌, ◌||◌, List, [], ◌∷◌, ◌++◌, length, Option, Some, None, arith, sym, subst, ap, ◌∙◌, refl, append-nil}
-use Rattle.std.specs.Prelude.{⊤, slice_get, slice_set}
+use Rattle.std.proofs.Common.{◌≡◌, ◌≢◌, ◌⊎◌, inl, inr, ℕ, ℤ, suc, ◌+◌, ◌-◌, ◌<◌, ◌≤◌, ◌==◌, Bool, true, false, ◌&&◌, ◌||◌, List, [], ◌∷◌, ◌++◌, Option, Some, if◌then◌else◌, arith, sym, subst, ap, ◌∙◌, refl}
+use Rattle.std.specs.Prelude.{slice_get}
 use Rattle.std.specs.List.{AllByRecursion}
 use Rattle.std.proofs.lemmas.Bool.{eqb-true, true≢false}
 use Rattle.raid_base.specs.declared.names.Txn.{Txn}
 use Rattle.raid_base.specs.declared.names.Item.{Item}
 use Rattle.raid_base.specs.declared.names.Site.{Site}
-use Rattle.raid_base.specs.declared.request.Request.{Request}
-use Rattle.raid_base.specs.declared.entry.Cause.{Cause}
 use Rattle.raid_base.specs.declared.entry.Entry.{Entry}
 use Rattle.raid_base.specs.declared.entry.Noted.{Noted}
-use Rattle.raid_base.specs.Find.{first_of}
 use Rattle.raid_base.specs.Names.{is_txn, is_item, is_site, holds}
 use Rattle.raid_base.specs.Sites.{site}
 use Rattle.raid_program.specs.declared.program.Want.TheVariants as wants
-use Rattle.raid_program.specs.Run.{given, put}
-use Rattle.raid_program.proofs.Asked.{end_told}
+use Rattle.raid_program.specs.Run.{Outcome}
 use Rattle.raid_workload.specs.declared.workload.Workload.{Workload}
 use Rattle.raid_workload.specs.Parts.{home, program}
 use Rattle.raid_rules.specs.Entries.{is_end_of}
 use Rattle.raid_rules.specs.History.{noted, has_ended}
 use Rattle.raid_rules.specs.Sessions.{last_session}
 use Rattle.raid_legal.specs.Seen.{seen, outcome}
-use Rattle.raid_legal.specs.Legal.{wants_item, is_lost, is_asked, is_free}
+use Rattle.raid_legal.specs.Legal.{wants_item, is_lost, is_asked}
 use Rattle.raid_message.specs.declared.letter.Message.{Message}
 use Rattle.raid_message.specs.declared.letter.Message.TheVariants as letters
 use Rattle.raid_message.specs.declared.letter.Letter.{Letter}
-use Rattle.raid_steps.specs.State.{Out, Turn, opened, Phase, asking, preparing, sent, Running, Sequencer, SiteState}
+use Rattle.raid_steps.specs.State.{Out, Turn, Phase, asking, preparing, sent, Running, Sequencer, SiteState}
 use Rattle.raid_steps.specs.Programs.{running_of}
 use Rattle.raid_steps.specs.Sequencer.{hear_sequencer}
-use Rattle.raid_steps.specs.Site.{hear_site}
-use Rattle.raid_steps.specs.World.{World, Servers, link}
-use Rattle.raid_sessions.proofs.Agreed as agreed
-use Rattle.raid_sessions.proofs.Lists.{all_weaken, get_below, get_set, get_other, some_is, same_self}
-use Rattle.raid_sessions.proofs.Mail.{same_or_not, letter_of, letters_to, moved, moved_taken, moved_sent, moved_other}
-use Rattle.raid_moves.specs.Moves.{Hears, Given}
-use Rattle.raid_moves.proofs.Places.{all_both, each_found, all_found}
-use Rattle.raid_made.specs.Made.{made_of}
-use Rattle.raid_stands.specs.Stands.{StandsIn, Stands, AreStanding}
+use Rattle.raid_steps.specs.World.{Servers, link}
+use Rattle.raid_sessions.proofs.Lists.{same_self}
+use Rattle.raid_sessions.proofs.Mail.{same_or_not, moved, moved_taken, moved_other}
+use Rattle.raid_moves.specs.Moves.{Given}
+use Rattle.raid_moves.proofs.Places.{all_both, each_found}
 use Rattle.raid_asks.proofs.Cares.{Stage, stopped, asleep, awake}
 use Rattle.raid_asks.proofs.Cares as cares
 use Rattle.raid_asks.proofs.Least.{Ours}
-use Rattle.raid_asks.proofs.Notes.{all_sent}
 use Rattle.raid_letters.specs.Says.{AskSays}
 use Rattle.raid_letters.proofs.Runs.{QueueSays}
-use Rattle.raid_layers.specs.Asks.{has_read, ask_of, asks_of, IsTimely, IsOneAsk, no_ask, one_ask, Outstanding, asked, dropped, read, asks_end, Closing, taken, closes, IsAbout, Talks}
-use Rattle.raid_layers.proofs.SiteTokens.{deaf_step}
-use Rattle.raid_layers.proofs.SiteWorlds.{HomeStep, same, falls, rises, hears, home_step, heard_late}
+use Rattle.raid_layers.specs.Asks.{has_read, ask_of, asks_of, IsTimely, IsOneAsk, no_ask, one_ask, Outstanding, asked, dropped, read, IsAbout, Talks}
 use Rattle.raid_layers.proofs.Tokens.{IsAskOf, asked_home}
-use Rattle.raid_layers.proofs.Turns.{asked_by, asked_sent}
-use Rattle.raid_layers.proofs.Worlds.{OneEach, TalksAt, TalkAll, Landed}
-use Rattle.raid_runs.specs.Asked.{IsSeen, AreAsked}
-use Rattle.raid_legal_runs.specs.Tell.{IsSeenBut, HasSeen, AsksSeen}
-use Rattle.raid_legal_runs.proofs.Among.{Among, among_one, IsAskAmong, each_among}
+use Rattle.raid_layers.proofs.Worlds.{TalkAll, Landed}
+use Rattle.raid_runs.specs.Asked.{AreAsked}
+use Rattle.raid_legal_runs.specs.Tell.{HasSeen, AsksSeen}
+use Rattle.raid_legal_runs.proofs.Among.{Among, IsAskAmong, each_among}
 use Rattle.raid_legal_runs.proofs.Answering.{Chain, hear_chain}
 use Rattle.raid_legal_runs.proofs.AtSequencer.{Asks, Sees, same as sees_same, reads as sees_read, chain_grows, chain_sees, chain_asked, free_open}
-use Rattle.raid_legal_runs.proofs.AtSite.{Has, TellsSeen, Now, step_now}
-use Rattle.raid_legal_runs.proofs.Seeing.{SeesSame, same_outcome, untrue, wants_too}
+use Rattle.raid_legal_runs.proofs.AtSite.{Has}
+use Rattle.raid_legal_runs.proofs.Seeing.{SeesSame, same_outcome, untrue}
 
 module _ (w : Workload) where
   -- the programs of a site, where it is up in its last session told
@@ -87,11 +75,11 @@ module _ (w : Workload) where
 
   -- an ask that is kept by a history that goes on
   keeps : (p q : List Noted) → ((t : Txn) → has_ended q t ≡ false → has_ended p t ≡ false) → (message : Message) → ((t : Txn) → IsAskOf t message → has_ended p t ≡ false → SeesSame w t p q) → AsksSeen w p message → AsksSeen w q message
-  keeps p q open (letters.ReadAsk t ask x) same h =
-      λ alive unread. (let s = same t (same_self t.0) (open t alive) in ap (λ (o : _). o.end) (same_outcome w t p q s) ∙ h (open t alive) (sym (s.reads x) ∙ unread))
-  keeps p q open (letters.CommitAsk t request) same h = λ alive y here. (same t (same_self t.0) (open t alive)).seen y ∙ h (open t alive) y here
-  keeps p q open (letters.EndAsk t cause told) same h = λ alive y here. (same t (same_self t.0) (open t alive)).seen y ∙ h (open t alive) y here
-  keeps p q open other same h = tt
+  keeps p q alive_before (letters.ReadAsk t ask x) same h =
+      λ alive unread. (let s = same t (same_self t.0) (alive_before t alive) in ap (λ (o : Outcome). o.end) (same_outcome w t p q s) ∙ h (alive_before t alive) (sym (s.reads x) ∙ unread))
+  keeps p q alive_before (letters.CommitAsk t request) same h = λ alive y here. (same t (same_self t.0) (alive_before t alive)).seen y ∙ h (alive_before t alive) y here
+  keeps p q alive_before (letters.EndAsk t cause told) same h = λ alive y here. (same t (same_self t.0) (alive_before t alive)).seen y ∙ h (alive_before t alive) y here
+  keeps p q alive_before other same h = tt
 
   module _ (s : Servers) (links : List (List (List Letter))) (known : Known s links) (all : AllSeen s.sequencer.history s.sites links) (from clock : ℕ) (letter : Letter) (rest : List Letter) (below : from < w.sites + 2) where
     abbrev p : List Noted
@@ -129,8 +117,8 @@ module _ (w : Workload) where
       chain : Chain w from letter s.sequencer.history s.sequencer.history now.state.history
       chain = hear_chain w from letter s.sequencer from refl
 
-      open : (t : Txn) → has_ended q t ≡ false → has_ended p t ≡ false
-      open t still = untrue (has_ended p t) (λ over. true≢false (sym (chain_grows w from letter s.sequencer.history chain (λ n. is_end_of t n.entry) over) ∙ still))
+      alive_before : (t : Txn) → has_ended q t ≡ false → has_ended p t ≡ false
+      alive_before t still = untrue (has_ended p t) (λ over. true≢false (sym (chain_grows w from letter s.sequencer.history chain (λ n. is_end_of t n.entry) over) ∙ still))
 
       -- the front letter stands on the link from a site
       front_at : (k : ℕ) → from ≡ k + 2 → link links 1 (k + 2) ≡ letter ∷ rest
@@ -190,7 +178,7 @@ module _ (w : Workload) where
       left_on k (inl of) =
           let gone = ap (link after 1) (sym of) ∙ moved_taken (w.sites + 2) links 1 from 0 clock rest now.outs known.landed.holds.square (omega arith) below (λ e. omega (arith, e, of)) in
           subst (AllByRecursion (SaysSeen q)) (sym gone)
-          (all_both (IsAskAmong rest) (SaysSeen p) (SaysSeen q) rest (λ l among h. keeps p q open l.message (λ t asks alive. still t l.message asks (among t asks) (chain_sees w from letter s.sequencer.history chain t)) h)
+          (all_both (IsAskAmong rest) (SaysSeen p) (SaysSeen q) rest (λ l among h. keeps p q alive_before l.message (λ t asks alive. still t l.message asks (among t asks) (chain_sees w from letter s.sequencer.history chain t)) h)
           (each_among rest) (subst (AllByRecursion (SaysSeen p)) (front_at k of) (all.asks k)).1)
         where
           still : (t : Txn) (m : Message) → IsAskOf t m → Among m (asks_of t rest) → Sees w from letter s.sequencer.history t p q → SeesSame w t p q
@@ -200,7 +188,7 @@ module _ (w : Workload) where
       left_on k (inr other) =
           let same = moved_other (w.sites + 2) links 1 from 0 clock rest now.outs known.landed.holds.square (omega arith) 1 (k + 2) (omega arith) (λ e. omega (arith, e)) (inr (λ e. other (sym e))) in
           subst (AllByRecursion (SaysSeen q)) (sym same)
-          (all_both (λ (l : Letter). AskSays w p (site (k + 1)) l.message) (SaysSeen p) (SaysSeen q) (link links 1 (k + 2)) (λ l says h. keeps p q open l.message (λ t asks alive. still t l.message says asks (chain_sees w from letter s.sequencer.history chain t)) h) (asks_say k) (all.asks k))
+          (all_both (λ (l : Letter). AskSays w p (site (k + 1)) l.message) (SaysSeen p) (SaysSeen q) (link links 1 (k + 2)) (λ l says h. keeps p q alive_before l.message (λ t asks alive. still t l.message says asks (chain_sees w from letter s.sequencer.history chain t)) h) (asks_say k) (all.asks k))
         where
           still : (t : Txn) (m : Message) → AskSays w p (site (k + 1)) m → IsAskOf t m → Sees w from letter s.sequencer.history t p q → SeesSame w t p q
           still t m says asks (sees_same a) = a
@@ -214,7 +202,7 @@ module _ (w : Workload) where
         program_keeps r f mine h alive = by_seen (chain_sees w from letter s.sequencer.history chain r.txn)
           where
             was : HasSeen w p r.txn r.answers r.phase
-            was = h (open r.txn alive)
+            was = h (alive_before r.txn alive)
 
             kept : (phase : Phase) → SeesSame w r.txn p q → HasSeen w p r.txn r.answers phase → HasSeen w q r.txn r.answers phase
             kept (asking ask x o) a b = λ y other here. a.seen y ∙ b y other here
@@ -223,7 +211,7 @@ module _ (w : Workload) where
 
             about : IsAbout p links k state.session r.txn r.asks r.answers (asks_of r.txn (link links 1 (k + 2))) r.phase
             about = elim (subst (Talks p links k state.session r.txn (asks_of r.txn (link links 1 (k + 2)))) f (known.talks.1 k state at up last r.txn)).1 [
-              | inl over ↦ absurd (true≢false (sym over ∙ open r.txn alive))
+              | inl over ↦ absurd (true≢false (sym over ∙ alive_before r.txn alive))
               | inr a ↦ a
             ]
 
