@@ -8,12 +8,16 @@ use Rattle.raid_legal.specs.Serial.{Serial}
 use Rattle.raid_runs.specs.Asked.{AreAsked}
 use Rattle.raid_runs.proofs.Legal.{upheld_legal, upheld_serial}
 use Rattle.raid_runs.proofs.Upheld.{run_upheld}
-use Rattle.raid_legal_runs.proofs.Runs.{runs_see}
-use Rattle.raid_legal_runs.proofs.Worlds.{GetsSeen}
+use Rattle.raid_legal_runs.specs.Gives.{GivesSeen}
+use Rattle.raid_legal_runs.specs.Tell.{TellSeen}
+use Rattle.raid_legal_runs.proofs.Runs.{runs_see, runs_tell}
 
-module _ (w : Workload) (gets : (schedule : List Pick) → GetsSeen w (run w schedule).servers (run w schedule).links) where
+module _ (w : Workload) (given : (schedule : List Pick) → GivesSeen w (run w schedule).servers (run w schedule).links) where
+  pub tell : (schedule : List Pick) → TellSeen w (run w schedule)
+  tell schedule = runs_tell w given schedule
+
   pub asked : (schedule : List Pick) → AreAsked w (report w (run w schedule).servers).entries
-  asked schedule = (runs_see w gets schedule).entries
+  asked schedule = (runs_see w given schedule).entries
 
   pub legal : (schedule : List Pick) → Legal w (report w (run w schedule).servers).entries
   legal schedule = upheld_legal w (report w (run w schedule).servers) (run_upheld w schedule) (asked schedule)

@@ -21,9 +21,10 @@ use Rattle.raid_asks.proofs.Reached.{first_state}
 use Rattle.raid_layers.proofs.Laws.{got, reads, gives, asks_one}
 use Rattle.raid_layers.proofs.Runs.{empty_at, nobody, landed}
 use Rattle.raid_layers.proofs.Worlds.{TalkAll}
+use Rattle.raid_legal_runs.specs.Gives.{GivesSeen}
 use Rattle.raid_legal_runs.specs.Tell.{TellSeen}
 use Rattle.raid_legal_runs.proofs.SiteWorlds.{site_seen}
-use Rattle.raid_legal_runs.proofs.Worlds.{SeenAt, SaysSeen, AllSeen, GetsSeen, Known, monitor_seen, sequencer_seen}
+use Rattle.raid_legal_runs.proofs.Worlds.{SeenAt, SaysSeen, AllSeen, Known, monitor_seen, sequencer_seen}
 
 module _ (w : Workload) where
   abbrev pub At : World → Type 0
@@ -85,12 +86,12 @@ module _ (w : Workload) where
   }
 
   -- along a schedule, where what programs get is what was seen in each world before
-  module _ (gets : (schedule : List Pick) → GetsSeen w (run w schedule).servers (run w schedule).links) where
+  module _ (given : (schedule : List Pick) → GivesSeen w (run w schedule).servers (run w schedule).links) where
     talks : (schedule : List Pick) → TalkAll w (run w schedule).servers (run w schedule).links
     talks schedule = (let one = asks_one w schedule in (one.one, one.talks))
 
     known : (schedule : List Pick) → Known w (run w schedule).servers (run w schedule).links
-    known schedule = record { landed = landed w (reads w) (gives w) schedule; talks = talks schedule; gets = gets schedule }
+    known schedule = record { landed = landed w (reads w) (gives w) schedule; talks = talks schedule; gives = given schedule }
 
     abbrev Later_in : World → Type 0
     Later_in state = TalkAll w state.servers state.links × AllByRecursion (AreStanding w) state.servers.sites

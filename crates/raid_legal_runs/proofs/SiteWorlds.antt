@@ -1,5 +1,5 @@
 -- A site's step in the world lets programs tell what they have seen.
-use Rattle.std.proofs.Common.{◌≡◌, ◌≢◌, ◌⊎◌, inl, inr, ℕ, ℤ, suc, ◌+◌, ◌<◌, ◌≤◌, ◌==◌, Bool, true, false, List, [], ◌∷◌, ◌++◌, Option, Some, if◌then◌else◌, None, arith, sym, subst, ap, ◌∙◌, refl}
+use Rattle.std.proofs.Common.{◌≡◌, ◌≢◌, ◌⊎◌, inl, inr, ℕ, ℤ, suc, ◌+◌, ◌<◌, ◌≤◌, ◌==◌, Bool, true, false, ◌||◌, List, [], ◌∷◌, ◌++◌, Option, Some, if◌then◌else◌, None, arith, sym, subst, ap, ◌∙◌, refl}
 use Rattle.std.specs.Prelude.{slice_get, slice_set}
 use Rattle.std.specs.List.{AllByRecursion}
 use Rattle.std.proofs.lemmas.Bool.{eqb-true, true≢false}
@@ -77,10 +77,10 @@ module _ (w : Workload) where
         only z e = among_one (letters.ReadAsk t ask x) z (subst (Among (letters.ReadAsk t ask x)) e among)
 
         wanted : (r : Running) → r.txn ≡ t → Stands w state.site r → Has w p r → (number : ℕ) (y : Item) (o : Option Site) → r.phase ≡ asking number y o → x ≡ y → Goal
-        wanted r its stand h number y o is same =
+        wanted r its stand h number y o is alike =
             let wish : (made_of w r.txn r.answers).end ≡ wants.Read y = (subst (StandsIn w state.site r.txn r.answers r.asks) is stand.phase).0 in
             let but : IsSeenBut w p r.txn y r.answers = subst (HasSeen w p r.txn r.answers) is (h (ap (has_ended p) its ∙ alive)) in
-            let wished : (made_of w r.txn r.answers).end ≡ wants.Read x = wish ∙ ap wants.Read (sym same) in
+            let wished : (made_of w r.txn r.answers).end ≡ wants.Read x = wish ∙ ap wants.Read (sym alike) in
             subst (λ u. (outcome w p u).end ≡ wants.Read x) its
             (wants_too w p r.txn x r.answers stand.reads wished (seen_all r y but wish) (ap (λ u. has_read p u x) its ∙ unread))
           where
@@ -193,7 +193,7 @@ module _ (w : Workload) where
         where
           now : Now w p turn
           now =
-              step_now w p state from letter known.landed.begun (known.landed.given j state at) (known.gets j state at up last from letter rest front) (known.landed.homes j state at).ascend (all.running j state at up last)
+              step_now w p state from letter known.landed.begun (known.landed.given j state at) (known.gives j state at up last from letter rest front) (known.landed.homes j state at).ascend (all.running j state at up last)
 
       own : Own
       own = go (home_step w state from letter)
