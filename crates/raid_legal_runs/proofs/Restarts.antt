@@ -1,5 +1,5 @@
 -- An abort after which its transaction may be tried again comes only while the transaction's home is up.
-use Rattle.std.proofs.Common.{◌≡◌, ◌==◌, Bool, true, false, not, ◌&&◌, ◌||◌, List, [], ◌∷◌, ◌++◌, filter, find, Option, Some, None, if◌then◌else◌, sym, subst, ap, ◌∙◌, refl}
+use Rattle.std.proofs.Common.{◌≡◌, ◌==◌, Bool, true, false, not, ◌||◌, List, [], ◌∷◌, ◌++◌, filter, find, Option, Some, None, if◌then◌else◌, sym, subst, ap, ◌∙◌, refl}
 use Rattle.std.specs.Prelude.{option_map}
 use Rattle.std.proofs.lemmas.Bool.{and_parts, true≢false}
 use Rattle.raid_base.specs.declared.names.Txn.{Txn}

@@ -18,13 +18,18 @@ use Rattle.raid_sessions.proofs.Reached.{from_below, server_below}
 use Rattle.raid_stands.specs.Stands.{AreStanding}
 use Rattle.raid_stands.proofs.Runs.{runs_stand}
 use Rattle.raid_asks.proofs.Reached.{first_state}
-use Rattle.raid_layers.proofs.Laws.{got, reads, gives, asks_one}
+use Rattle.raid_layers.proofs.Laws.{reads, gives, asks_one}
 use Rattle.raid_layers.proofs.Runs.{empty_at, nobody, landed}
 use Rattle.raid_layers.proofs.Worlds.{TalkAll}
 use Rattle.raid_legal_runs.specs.Gives.{GivesSeen}
 use Rattle.raid_legal_runs.specs.Tell.{TellSeen}
 use Rattle.raid_legal_runs.proofs.SiteWorlds.{site_seen}
 use Rattle.raid_legal_runs.proofs.Worlds.{SeenAt, SaysSeen, AllSeen, Known, monitor_seen, sequencer_seen}
+
+got : {X : Type 0} (P : X → Type 0) (xs : List X) (k : ℕ) (x : X) → AllByRecursion P xs → slice_get xs k ≡ Some x → P x
+got P [] k x a q = absurd (cc q)
+got P (y ∷ xs) zero x a q = (let same : y ≡ x = cc q in subst P same a.0)
+got P (y ∷ xs) (suc k) x a q = got P xs k x a.1 q
 
 module _ (w : Workload) where
   abbrev pub At : World → Type 0

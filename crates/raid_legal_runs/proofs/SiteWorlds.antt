@@ -17,7 +17,7 @@ use Rattle.raid_workload.specs.declared.workload.Workload.{Workload}
 use Rattle.raid_workload.specs.Parts.{program}
 use Rattle.raid_rules.specs.History.{noted, has_ended}
 use Rattle.raid_rules.specs.Sessions.{last_session}
-use Rattle.raid_legal.specs.Seen.{seen, outcome}
+use Rattle.raid_legal.specs.Seen.{outcome}
 use Rattle.raid_message.specs.declared.letter.Message.{Message}
 use Rattle.raid_message.specs.declared.letter.Message.TheVariants as letters
 use Rattle.raid_message.specs.declared.letter.Letter.{Letter}
@@ -186,9 +186,9 @@ module _ (w : Workload) where
       awake_own up up_same session_same last = (
         (λ u l. now.running),
         asks_seen p after j turn.state.session turn.state (link after 1 (j + 2)) one (λ t. talks (up_same ∙ up) (last ∙ sym session_same) t) stands now.running
-        (subst (AllByRecursion (λ (l : Letter). TellsSeen w p l.message)) (sym asks_after)
-        (all_append (λ (l : Letter). TellsSeen w p l.message) (link links 1 (j + 2)) (letters_to 1 turn.state.session clock turn.outs) (all_weaken (SaysSeen w p) (λ (l : Letter). TellsSeen w p l.message) (link links 1 (j + 2)) (λ l h. telling p l.message h) (all.asks j))
-        (all_sent (λ (l : Letter). TellsSeen w p l.message) 1 turn.state.session clock turn.outs (all_weaken (Says w p) (λ (out : Out). out.0 ≡ 1 → TellsSeen w p (letter_of turn.state.session clock out).message) turn.outs (λ out h to. h) now.outs)))),
+            (subst (AllByRecursion (λ (l : Letter). TellsSeen w p l.message)) (sym asks_after)
+            (all_append (λ (l : Letter). TellsSeen w p l.message) (link links 1 (j + 2)) (letters_to 1 turn.state.session clock turn.outs) (all_weaken (SaysSeen w p) (λ (l : Letter). TellsSeen w p l.message) (link links 1 (j + 2)) (λ l h. telling p l.message h) (all.asks j))
+            (all_sent (λ (l : Letter). TellsSeen w p l.message) 1 turn.state.session clock turn.outs (all_weaken (Says w p) (λ (out : Out). out.0 ≡ 1 → TellsSeen w p (letter_of turn.state.session clock out).message) turn.outs (λ out h to. h) now.outs)))),
       )
         where
           now : Now w p turn

@@ -1,5 +1,5 @@
 -- Each step in the world lets programs tell what they have seen, and what is placed is asked.
-use Rattle.std.proofs.Common.{◌≡◌, ◌≢◌, ◌⊎◌, inl, inr, ℕ, suc, ◌+◌, ◌-◌, ◌<◌, ◌≤◌, ◌==◌, Bool, true, false, ◌&&◌, ◌||◌, List, [], ◌∷◌, ◌++◌, Option, Some, if◌then◌else◌, arith, sym, subst, ap, ◌∙◌, refl}
+use Rattle.std.proofs.Common.{◌≡◌, ◌≢◌, ◌⊎◌, inl, inr, ℕ, suc, ◌+◌, ◌<◌, ◌==◌, Bool, true, false, ◌||◌, List, [], ◌∷◌, ◌++◌, Option, Some, if◌then◌else◌, arith, sym, subst, ap, ◌∙◌, refl}
 use Rattle.std.specs.Prelude.{slice_get}
 use Rattle.std.specs.List.{AllByRecursion}
 use Rattle.std.proofs.lemmas.Bool.{eqb-true, true≢false}
@@ -8,7 +8,7 @@ use Rattle.raid_base.specs.declared.names.Item.{Item}
 use Rattle.raid_base.specs.declared.names.Site.{Site}
 use Rattle.raid_base.specs.declared.entry.Entry.{Entry}
 use Rattle.raid_base.specs.declared.entry.Noted.{Noted}
-use Rattle.raid_base.specs.Names.{is_txn, is_item, is_site, holds}
+use Rattle.raid_base.specs.Names.{is_txn, is_item, is_site}
 use Rattle.raid_base.specs.Sites.{site}
 use Rattle.raid_program.specs.declared.program.Want.TheVariants as wants
 use Rattle.raid_program.specs.Run.{Outcome}
@@ -17,7 +17,7 @@ use Rattle.raid_workload.specs.Parts.{home}
 use Rattle.raid_rules.specs.Entries.{is_end_of}
 use Rattle.raid_rules.specs.History.{noted, has_ended}
 use Rattle.raid_rules.specs.Sessions.{last_session}
-use Rattle.raid_legal.specs.Seen.{seen, outcome}
+use Rattle.raid_legal.specs.Seen.{outcome}
 use Rattle.raid_legal.specs.Legal.{wants_item, is_lost, is_asked}
 use Rattle.raid_message.specs.declared.letter.Message.{Message}
 use Rattle.raid_message.specs.declared.letter.Message.TheVariants as letters
