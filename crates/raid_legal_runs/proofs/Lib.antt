@@ -3,6 +3,7 @@ pub mod Answering
 pub mod AtSequencer
 pub mod AtSite
 pub mod Laws
+pub mod Locks
 pub mod Restarts
 pub mod Runs
 pub mod Seeing
