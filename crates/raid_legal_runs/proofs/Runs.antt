@@ -21,10 +21,9 @@ use Rattle.raid_asks.proofs.Reached.{first_state}
 use Rattle.raid_layers.proofs.Laws.{reads, gives, asks_one}
 use Rattle.raid_layers.proofs.Runs.{empty_at, nobody, landed}
 use Rattle.raid_layers.proofs.Worlds.{TalkAll}
-use Rattle.raid_legal_runs.specs.Gives.{GivesSeen}
 use Rattle.raid_legal_runs.specs.Tell.{TellSeen}
 use Rattle.raid_legal_runs.proofs.SiteWorlds.{site_seen}
-use Rattle.raid_legal_runs.proofs.Worlds.{SeenAt, SaysSeen, AllSeen, Known, monitor_seen, sequencer_seen}
+use Rattle.raid_legal_runs.proofs.Worlds.{SeenAt, SaysSeen, AllSeen, GivesSeen, Known, monitor_seen, sequencer_seen}
 
 got : {X : Type 0} (P : X → Type 0) (xs : List X) (k : ℕ) (x : X) → AllByRecursion P xs → slice_get xs k ≡ Some x → P x
 got P [] k x a q = absurd (cc q)

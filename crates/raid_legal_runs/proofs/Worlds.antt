@@ -1,5 +1,5 @@
 -- Each step in the world lets programs tell what they have seen, and what is placed is asked.
-use Rattle.std.proofs.Common.{◌≡◌, ◌≢◌, ◌⊎◌, inl, inr, ℕ, suc, ◌+◌, ◌<◌, ◌==◌, Bool, true, false, ◌||◌, List, [], ◌∷◌, ◌++◌, Option, Some, if◌then◌else◌, arith, sym, subst, ap, ◌∙◌, refl}
+use Rattle.std.proofs.Common.{◌≡◌, ◌≢◌, ◌⊎◌, inl, inr, ℕ, ℤ, suc, ◌+◌, ◌<◌, ◌==◌, Bool, true, false, ◌||◌, List, [], ◌∷◌, ◌++◌, Option, Some, if◌then◌else◌, arith, sym, subst, ap, ◌∙◌, refl}
 use Rattle.std.specs.Prelude.{slice_get}
 use Rattle.std.specs.List.{AllByRecursion}
 use Rattle.std.proofs.lemmas.Bool.{eqb-true, true≢false}
@@ -17,7 +17,7 @@ use Rattle.raid_workload.specs.Parts.{home}
 use Rattle.raid_rules.specs.Entries.{is_end_of}
 use Rattle.raid_rules.specs.History.{noted, has_ended}
 use Rattle.raid_rules.specs.Sessions.{last_session}
-use Rattle.raid_legal.specs.Seen.{outcome}
+use Rattle.raid_legal.specs.Seen.{seen, outcome}
 use Rattle.raid_legal.specs.Legal.{wants_item, is_lost, is_asked}
 use Rattle.raid_message.specs.declared.letter.Message.{Message}
 use Rattle.raid_message.specs.declared.letter.Message.TheVariants as letters
@@ -28,6 +28,7 @@ use Rattle.raid_steps.specs.Sequencer.{hear_sequencer}
 use Rattle.raid_steps.specs.World.{Servers, link}
 use Rattle.raid_sessions.proofs.Lists.{same_self}
 use Rattle.raid_sessions.proofs.Mail.{same_or_not, moved, moved_taken, moved_other}
+use Rattle.raid_moves.specs.Moves.{Given}
 use Rattle.raid_moves.proofs.Places.{all_both, each_found}
 use Rattle.raid_asks.proofs.Cares.{Stage, stopped, asleep, awake}
 use Rattle.raid_asks.proofs.Cares as cares
@@ -38,7 +39,6 @@ use Rattle.raid_layers.specs.Asks.{has_read, ask_of, asks_of, IsTimely, IsOneAsk
 use Rattle.raid_layers.proofs.Tokens.{IsAskOf, asked_home}
 use Rattle.raid_layers.proofs.Worlds.{TalkAll, Landed}
 use Rattle.raid_runs.specs.Asked.{AreAsked}
-use Rattle.raid_legal_runs.specs.Gives.{GivesSeen}
 use Rattle.raid_legal_runs.specs.Tell.{HasSeen, AsksSeen}
 use Rattle.raid_legal_runs.proofs.Among.{Among, IsAskAmong, each_among}
 use Rattle.raid_legal_runs.proofs.Answering.{Chain, hear_chain}
@@ -60,11 +60,19 @@ module _ (w : Workload) where
     pub asks : (k : ℕ) → AllByRecursion (SaysSeen (noted h)) (link links 1 (k + 2))
     pub entries : AreAsked w h
 
+  -- what a letter gives to a program for its ask is what its transaction has seen: where a site that is up in its last session told hears it next,
+  -- and the transaction isn't over
+  abbrev pub GivesSeen : Servers → List (List (List Letter)) → Type 0
+  GivesSeen s links =
+      (k : ℕ) (state : SiteState) → slice_get s.sites k ≡ Some state → state.up ≡ true → last_session (noted s.sequencer.history) (site (k + 1)) ≡ state.session → (from : ℕ) (letter : Letter) (rest : List Letter) → link links (suc (suc k)) from ≡ letter ∷ rest →
+      (r : Running) (ask : ℕ) (x : Item) (q : Option Site) (v : ℤ) → running_of state r.txn ≡ Some r → r.phase ≡ asking ask x q → has_ended (noted s.sequencer.history) r.txn ≡ false → Given w state from letter r.txn ask v →
+      seen w (noted s.sequencer.history) r.txn x ≡ Some v
+
   -- what holds besides: of the world before a step
   pub record Known (s : Servers) (links : List (List (List Letter))) : Type 0 where
     pub landed : Landed w s links
     pub talks : TalkAll w s links
-    pub gives : GivesSeen w s links
+    pub gives : GivesSeen s links
 
   -- an ask that is kept by a history that goes on
   keeps : (p q : List Noted) → ((t : Txn) → has_ended q t ≡ false → has_ended p t ≡ false) → (message : Message) → ((t : Txn) → IsAskOf t message → has_ended p t ≡ false → SeesSame w t p q) → AsksSeen w p message → AsksSeen w q message

@@ -17,23 +17,41 @@ ghost use Rattle.raid_workload.specs.Parts.{home};
 ghost use Rattle.raid_rules.specs.Conflict.{Edge, committed, serial_order};
 ghost use Rattle.raid_rules.specs.History.{noted, is_running};
 ghost use Rattle.raid_message.specs.declared.letter.Pick.{Pick};
-ghost use Rattle.raid_steps.specs.World.{run, report};
+ghost use Rattle.raid_steps.specs.World.{run, report, is_idle};
 ghost use Rattle.raid_legal.specs.Seen.{is_up, is_restartable};
 ghost use Rattle.raid_legal.specs.Legal.{Legal};
 ghost use Rattle.raid_legal.specs.Serial.{Serial};
 ghost use Rattle.raid_placed.specs.Placed.{Placed};
-ghost use Rattle.raid_legal_runs.specs.Gives.{GivesSeen};
 ghost use Rattle.raid_legal_runs.specs.Tell.{TellSeen};
+ghost use Rattle.raid_legal_runs.specs.Truthful.{Truthful};
 
-/// Where whatever steps are taken give programs the values that they have seen: programs tell what they have seen, each run is legal, and so
-/// it is serial.
-pub fn runs_are_legal_where_values_are_seen()
-    ensures tell { (w : Workload) → ((schedule : List Pick) → GivesSeen w (run w schedule).servers (run w schedule).links) → (schedule : List Pick) → TellSeen w (run w schedule) }
-    ensures legal { (w : Workload) → ((schedule : List Pick) → GivesSeen w (run w schedule).servers (run w schedule).links) → (schedule : List Pick) → Legal w (report w (run w schedule).servers).entries }
-    ensures serial { (w : Workload) → ((schedule : List Pick) → GivesSeen w (run w schedule).servers (run w schedule).links) → (schedule : List Pick) → Serial w (report w (run w schedule).servers) }
+/// Whatever steps were taken: while a transaction isn't over, its program at a site that is up in its last session told was answered what the
+/// history says that it has seen, but for the item that it asks for; and what is asked for it is what its program wants on that.
+#[tactic(auto, using(crate::proofs::Laws::tell))]
+pub fn programs_tell_what_they_have_seen()
+    ensures { (w : Workload) (schedule : List Pick) → TellSeen w (run w schedule) }
 {}
 
-/// An abort after which its transaction may be tried again is placed only while the transaction's home is up, in the history of each run.
+/// Whatever steps were taken: the history is legal.
+#[tactic(auto, using(crate::proofs::Laws::legal))]
+pub fn runs_are_legal()
+    ensures { (w : Workload) (schedule : List Pick) → Legal w (report w (run w schedule).servers).entries }
+{}
+
+/// Whatever steps were taken: the programs of the committed transactions, run alone one after the other in the order told, make the commits
+/// and leave the final values.
+#[tactic(auto, using(crate::proofs::Laws::serial))]
+pub fn runs_are_serial()
+    ensures { (w : Workload) (schedule : List Pick) → Serial w (report w (run w schedule).servers) }
+{}
+
+/// Where no letter is left on any link: the report is truthful. What it lacks for being sound is that nothing is left to do.
+#[tactic(auto, using(crate::proofs::Laws::truthful))]
+pub fn idle_runs_are_truthful()
+    ensures { (w : Workload) (schedule : List Pick) → is_idle (run w schedule) ≡ true → Truthful w (report w (run w schedule).servers) }
+{}
+
+/// An abort after which its transaction may be tried again is placed only while the transaction's home is up, whatever the sequencer hears.
 #[tactic(auto, using(crate::proofs::Restarts::restart_home))]
 pub fn restartable_aborts_come_while_homes_are_up()
     ensures { (w : Workload) (h : List Entry) (t : Txn) (cause : Cause) (act : Act) → Placed w (h ++ Abort t cause act ∷ []) → is_restartable cause ≡ true → is_up w (noted h) (home w t) ≡ true }

@@ -1,0 +1,14 @@
+pub mod Asking
+pub mod Claims
+pub mod Committed
+pub mod Current
+pub mod GetsRuns
+pub mod GetsSites
+pub mod GetsWorlds
+pub mod Given
+pub mod Idle
+pub mod Items
+pub mod Pushes
+pub mod Rows
+pub mod Runs
+pub mod Written
