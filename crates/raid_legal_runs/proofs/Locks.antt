@@ -101,11 +101,11 @@ all_of P Q (x ∷ xs) each a = (each x (here x xs) a.0, all_of P Q xs (λ u i. e
 
 is_of : (P : Txn → Type 0) (xs : List Txn) (u : Txn) → AllByRecursion P xs → has_txn xs u ≡ true → P u
 is_of P [] u a i = absurd (true≢false (sym i))
-is_of P (x ∷ xs) u a i = go (x.0 == u.0) refl i
+is_of P (x ∷ xs) u a i = go (x.0 == u.0) refl i (is_of P xs u a.1)
   where
-    go : (b : Bool) → (x.0 == u.0) ≡ b → (b || has_txn xs u) ≡ true → P u
-    go true q i = subst P (same_txn x u q) a.0
-    go false q i = is_of P xs u a.1 i
+    go : (b : Bool) → (x.0 == u.0) ≡ b → (b || has_txn xs u) ≡ true → (has_txn xs u ≡ true → P u) → P u
+    go true q i rest = subst P (same_txn x u q) a.0
+    go false q i rest = rest i
 
 rises_as : (f g : Txn → ℕ) (xs : List Txn) → ((u : Txn) → has_txn xs u ≡ true → g u ≡ f u) → Rises f xs → Rises g xs
 rises_as f g [] same r = tt
@@ -125,15 +125,15 @@ rises_push f (x ∷ xs) t r a = (all_push (λ u. f x < f u) xs t r.0 a.0, rises_
 -- who stands before another has the smaller number, and who doesn't has none smaller
 rises_before : (f : Txn → ℕ) (xs ys : List Txn) (t : Txn) → Rises f (xs ++ t ∷ ys) → (x : Txn) → has_txn xs x ≡ true → f x < f t
 rises_before f [] ys t r x i = absurd (true≢false (sym i))
-rises_before f (z ∷ xs) ys t r x i = go (z.0 == x.0) refl i
+rises_before f (z ∷ xs) ys t r x i = go (z.0 == x.0) refl i (rises_before f xs ys t r.1 x)
   where
     last : (xs : List Txn) → has_txn (xs ++ t ∷ ys) t ≡ true
     last [] = here t ys
     last (y ∷ xs) = there y t (xs ++ t ∷ ys) (last xs)
 
-    go : (b : Bool) → (z.0 == x.0) ≡ b → (b || has_txn xs x) ≡ true → f x < f t
-    go true q i = subst (λ u. f u < f t) (same_txn z x q) (is_of (λ u. f z < f u) (xs ++ t ∷ ys) t r.0 (last xs))
-    go false q i = rises_before f xs ys t r.1 x i
+    go : (b : Bool) → (z.0 == x.0) ≡ b → (b || has_txn xs x) ≡ true → (has_txn xs x ≡ true → f x < f t) → f x < f t
+    go true q i rest = subst (λ u. f u < f t) (same_txn z x q) (is_of (λ u. f z < f u) (xs ++ t ∷ ys) t r.0 (last xs))
+    go false q i rest = rest i
 
 rises_after : (f : Txn → ℕ) (xs ys : List Txn) (t : Txn) → Rises f (xs ++ t ∷ ys) → (x : Txn) → has_txn (xs ++ t ∷ ys) x ≡ true → has_txn xs x ≡ false → f t ≤ f x
 rises_after f [] ys t r x i out = go (t.0 == x.0) refl i
@@ -141,11 +141,11 @@ rises_after f [] ys t r x i out = go (t.0 == x.0) refl i
     go : (b : Bool) → (t.0 == x.0) ≡ b → (b || has_txn ys x) ≡ true → f t ≤ f x
     go true q i = subst (λ u. f t ≤ f u) (same_txn t x q) (omega arith)
     go false q i = (let less = is_of (λ u. f t < f u) ys x r.0 i in omega (arith, less))
-rises_after f (z ∷ xs) ys t r x i out = go (z.0 == x.0) refl i out
+rises_after f (z ∷ xs) ys t r x i out = go (z.0 == x.0) refl i out (rises_after f xs ys t r.1 x)
   where
-    go : (b : Bool) → (z.0 == x.0) ≡ b → (b || has_txn (xs ++ t ∷ ys) x) ≡ true → (b || has_txn xs x) ≡ false → f t ≤ f x
-    go true q i out = absurd (true≢false out)
-    go false q i out = rises_after f xs ys t r.1 x i out
+    go : (b : Bool) → (z.0 == x.0) ≡ b → (b || has_txn (xs ++ t ∷ ys) x) ≡ true → (b || has_txn xs x) ≡ false → (has_txn (xs ++ t ∷ ys) x ≡ true → has_txn xs x ≡ false → f t ≤ f x) → f t ≤ f x
+    go true q i out rest = absurd (true≢false out)
+    go false q i out rest = rest i out
 
 -- the numbers of the Commits ascend along the committed transactions
 record Ascends (p : List Noted) : Type 0 where
@@ -164,14 +164,14 @@ module _ (w : Workload) where
     same_numbers none u i = number u ∙ ap (λ b. if b then length p + 1 else commit_number p u) (none u i)
 
     others : ((u : Txn) → is_commit_of u e ≡ false) → commit_of e ≡ None → Ascends (add p e)
-    others none no = record {
+    others none unmade = record {
       rises = subst (Rises (commit_number (add p e))) (sym same) (rises_as (commit_number p) (commit_number (add p e)) (committed p) (same_numbers (λ u i. none u)) a.rises);
       low = subst (AllByRecursion (λ (u : Txn). commit_number (add p e) u ≤ length (add p e))) (sym same)
           (all_of (λ u. commit_number p u ≤ length p) (λ u. commit_number (add p e) u ≤ length (add p e)) (committed p) (λ u i l. (let q = same_numbers (λ u i. none u) u i in let m = long in omega (arith, l, q, m))) a.low);
     }
       where
         same : committed (add p e) ≡ committed p
-        same = committed_push p (next p e) ∙ ap (λ o. committed p ++ map (λ c. c.0) (option_to_list o)) no ∙ append-nil (committed p)
+        same = committed_push p (next p e) ∙ ap (λ o. committed p ++ map (λ c. c.0) (option_to_list o)) unmade ∙ append-nil (committed p)
 
   ascends_add : (p : List Noted) (e : Entry) → Placeable w p e → Ascends p → Ascends (add p e)
   ascends_add p (Commit t request applied) goes a = record {

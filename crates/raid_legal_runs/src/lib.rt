@@ -46,7 +46,6 @@ pub fn runs_are_serial()
 {}
 
 /// Where no letter is left on any link: the report is truthful. What it lacks for being sound is that nothing is left to do.
-#[tactic(auto, using(crate::proofs::Laws::truthful))]
 pub fn idle_runs_are_truthful()
     ensures { (w : Workload) (schedule : List Pick) → is_idle (run w schedule) ≡ true → Truthful w (report w (run w schedule).servers) }
 {}
@@ -58,13 +57,11 @@ pub fn restartable_aborts_come_while_homes_are_up()
 {}
 
 /// Under locking alone, in a legal history, no running transaction has an edge to another: what it has read nobody has written since.
-#[tactic(auto, using(crate::proofs::Locks::no_edge))]
 pub fn running_transactions_hold_their_locks()
     ensures { (w : Workload) (h : List Entry) → Legal w h → w.switches ≡ [] → w.kind ≡ Lock → (t u : Txn) → is_running (noted h) t ≡ true → Edge (noted h) t u → ⊥ }
 {}
 
 /// Without switches, under locking and under validation, the serial order of a legal history is the order of its Commits.
-#[tactic(auto, using(crate::proofs::Locks::in_commit_order))]
 pub fn orders_are_those_of_the_commits()
     ensures { (w : Workload) (h : List Entry) → Legal w h → w.switches ≡ [] → (w.kind ≡ Lock) ⊎ (w.kind ≡ Valid) → serial_order (noted h) ≡ committed (noted h) }
 {}
