@@ -1,0 +1,11 @@
+pub mod Among
+pub mod Answering
+pub mod AtSequencer
+pub mod AtSite
+pub mod Laws
+pub mod Locks
+pub mod Restarts
+pub mod Runs
+pub mod Seeing
+pub mod SiteWorlds
+pub mod Worlds
