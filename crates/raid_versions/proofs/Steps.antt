@@ -45,7 +45,7 @@ use Rattle.raid_placed.proofs.Heard.{Fine, leave_fine, sent_placed, read_sent, c
 use Rattle.raid_placed.proofs.Sent.{unforced_placeable, forced_placeable}
 use Rattle.raid_placed.proofs.Settled.{place_placed, settle_placed, settle_settles, settle_quiet}
 use Rattle.raid_sessions.proofs.Ledger.{is_still, last_still, last_down}
-use Rattle.raid_sessions.proofs.Lists.{all_append}
+use Rattle.raid_sessions.proofs.Lists.{all_append, not_false}
 use Rattle.raid_letters.specs.Says.{is_held}
 use Rattle.raid_letters.proofs.Sends.{first_in}
 
@@ -67,19 +67,12 @@ module _ (w : Workload) where
       go None q rest = rest
       go (Some y) q rest = (each x y q, rest)
 
-  untrue : (b : Bool) → not b ≡ true → b ≡ false
-  untrue true q = absurd (no q)
-    where
-      no : false ≡ true → ⊥
-      no q = cc q
-  untrue false q = refl
-
   -- sources are up and unlocked
   pub source_unlocked : (p : List Noted) (x : Item) (s : Site) → has_site (sources w p x) s ≡ true → (is_site_up (vector w p) s ≡ true) × (is_copy_locked p s x ≡ false)
   source_unlocked p x s q =
       let both = and_parts (rules.is_source w.sites (placement w) p x s) (has_site all_sites s) (sym (has_kept (rules.is_source w.sites (placement w) p x) s all_sites) ∙ q) in
       let parts = and_parts (is_held w s x && is_site_up (vector w p) s) (not (is_copy_locked p s x)) both.0 in
-      ((and_parts (is_held w s x) (is_site_up (vector w p) s) parts.0).1, untrue (is_copy_locked p s x) parts.1)
+      ((and_parts (is_held w s x) (is_site_up (vector w p) s) parts.0).1, not_false (is_copy_locked p s x) parts.1)
 
   module _ (p : List Noted) where
     all_due : (out : List Copying) (s : Site) → AreDue p (rows.copies_due w p out s)
