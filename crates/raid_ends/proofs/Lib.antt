@@ -1,2 +1,5 @@
 pub mod Links
 pub mod Monitor
+pub mod Programs
+pub mod Site
+pub mod Rows
