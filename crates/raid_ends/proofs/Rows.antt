@@ -190,10 +190,10 @@ module _ (w : Workload) (p : List Noted) (s : Site) (here : has_site (sites w) s
         given (parts.read_elsewhere j v m) = fits (letters.Value r.txn k v) m.is refl (omega arith)
 
     -- each move
-    module _ (J : Turn SiteState → Type 0) (starts : (turn : Turn SiteState) → J turn → (turn.state.next == 0) ≡ false → (has_txn (txns w) (next_of turn) ≡ true) × (may_take_up w p s turn.state.running (next_of turn) ≡ true)) where
+    module _ (J : Turn SiteState → Type 0) (starts : (turn : Turn SiteState) → J turn → turn.state.site ≡ s → (turn.state.next == 0) ≡ false → (has_txn (txns w) (next_of turn) ≡ true) × (may_take_up w p s turn.state.running (next_of turn) ≡ true)) where
       move_costs : {turn after : Turn SiteState} → Move w state from letter turn after → Ascend turn.state.running → J turn → Costs turn → Costs after
       move_costs {turn = turn} {after = after} (parts.begins b n l g) a j c =
-          let may = starts turn j n in
+          let may = starts turn j c.0 n in
           let up : Spent after ≤ Spent turn = site_costs.taken_up w p s here again (passed w turn) (next_of turn) c.0 may.0 may.1 g in
           let was = c.1 in
           ((goes_leave w (tell (passed w turn) (letters.Begin (next_of turn))) (fresh (next_of turn)) g).site ∙ c.0, omega (arith, up, was))

@@ -1,16 +1,27 @@
-//! Each pick lowers the measure.
+//! Each pick lowers the measure: of the monitor, and of the sites where they are ready.
 //!
-//! The functions do nothing: each is a law, and its contract says it.
+//! `specs/Ready` says what a site has to be like. The functions do nothing: each is a law, and its contract says it.
 #![tactic(auto)]
 
-ghost use Rattle.std.specs.Prelude.{◌≡◌, ◌<◌, true};
+ghost use Rattle.std.specs.Prelude.{◌≡◌, ◌<◌, ◌+◌, ℕ, true, List, ◌∷◌, Some, slice_get};
+ghost use Rattle.raid_base.specs.Sites.{site};
 ghost use Rattle.raid_workload.specs.declared.workload.Workload.{Workload};
+ghost use Rattle.raid_rules.specs.History.{noted};
+ghost use Rattle.raid_message.specs.declared.letter.Letter.{Letter};
 ghost use Rattle.raid_message.specs.declared.letter.Pick.{Pick};
-ghost use Rattle.raid_steps.specs.World.{World, pick, finds};
+ghost use Rattle.raid_steps.specs.State.{SiteState};
+ghost use Rattle.raid_steps.specs.World.{World, link, pick, finds};
 ghost use Rattle.raid_measure.specs.Measure.{measure};
+ghost use Rattle.raid_ends.specs.Ready.{Ready};
 
 /// Whatever the world is: a letter that the monitor takes lowers the measure.
-#[tactic(auto, using(crate::proofs::Monitor::monitor_lowers, crate::proofs::Programs::few_run, crate::proofs::Rows::step_costs))]
+#[tactic(auto, using(crate::proofs::Monitor::monitor_lowers))]
 pub fn picks_of_the_monitor_lower_the_measure()
     ensures { (w : Workload) (state : World) (p : Pick) → p.server ≡ 0 → finds state p ≡ true → measure w (pick w state p) < measure w state }
+{}
+
+/// A letter that a site takes lowers the measure, where the site is ready for it.
+#[tactic(auto, using(crate::proofs::Sites::site_lowers))]
+pub fn picks_of_sites_lower_the_measure()
+    ensures { (w : Workload) (state : World) (k : ℕ) (s : SiteState) → slice_get state.servers.sites k ≡ Some s → s.site ≡ site (k + 1) → (p : Pick) → p.server ≡ k + 2 → ((letter : Letter) (rest : List Letter) → link state.links p.server p.from ≡ letter ∷ rest → Ready w (noted state.servers.sequencer.history) s p.from letter) → finds state p ≡ true → measure w (pick w state p) < measure w state }
 {}
