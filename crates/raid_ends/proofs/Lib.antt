@@ -1,7 +1,10 @@
+pub mod Copies
+pub mod Histories
 pub mod Links
 pub mod Monitor
 pub mod Programs
 pub mod Rows
+pub mod Sent
 pub mod Site
 pub mod Sites
 pub mod UpNotes

@@ -1,6 +1,6 @@
 -- The monitor's step lowers the measure.
-use Rattle.std.proofs.Common.{◌≡◌, ℕ, zero, suc, ◌+◌, ◌-◌, ◌<◌, ◌≤◌, ◌==◌, nat_le, Bool, true, false, List, [], ◌∷◌, length, map, if◌then◌else◌, arith, sym, subst, ap, ◌∙◌, refl}
-use Rattle.std.specs.Prelude.{take, drop}
+use Rattle.std.proofs.Common.{◌≡◌, ℕ, ◌+◌, ◌<◌, ◌==◌, nat_le, Bool, true, false, List, [], ◌∷◌, length, map, if◌then◌else◌, arith, sym, subst, ap, refl}
+use Rattle.std.specs.Prelude.{drop}
 use Rattle.std.specs.List.{sum_by, prefix_len}
 use Rattle.std.proofs.lemmas.List.{drop-drop}
 use Rattle.std.proofs.lemmas.List.Sums.{sum_by-cons, sum_by-take-drop}
@@ -12,7 +12,7 @@ use Rattle.raid_message.specs.declared.letter.Message.TheVariants as letters
 use Rattle.raid_message.specs.declared.letter.Letter.{Letter}
 use Rattle.raid_message.specs.declared.letter.Pick.{Pick}
 use Rattle.raid_steps.specs.State.{Turn, Out, opened}
-use Rattle.raid_steps.specs.Monitor.{due_events, event_out, ends_row, halted_row, monitor_row, hear_monitor}
+use Rattle.raid_steps.specs.Monitor.{due_events, event_out, ends_row, halted_row, monitor_row}
 use Rattle.raid_steps.specs.World.{World, pick, finds}
 use Rattle.raid_measure.specs.Measure.{letter_cost, event_cost, events_cost, stop_cost, return_cost, measure}
 use Rattle.raid_ends.proofs.Links.{outs_cost, Lowers, pick_lowers}

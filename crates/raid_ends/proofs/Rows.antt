@@ -1,7 +1,7 @@
 -- A site's step lowers the measure: what each row and each move costs. Where the site is told that another is up again, moves alone leave open how
 -- often programs are joined: that letter stands in another file.
-use Rattle.std.proofs.Common.{◌≡◌, ℕ, ℤ, zero, suc, ◌+◌, ◌*◌, ◌<◌, ◌≤◌, ◌==◌, Bool, true, false, not, List, [], ◌∷◌, ◌++◌, length, filter, Option, Some, None, arith, sym, subst, ap, ◌∙◌, refl}
-use Rattle.std.specs.List.{AllByRecursion, sum_by}
+use Rattle.std.proofs.Common.{◌≡◌, ℕ, ℤ, ◌+◌, ◌*◌, ◌<◌, ◌≤◌, ◌==◌, Bool, true, false, not, List, [], length, filter, Option, Some, None, arith, sym, subst, ap, ◌∙◌, refl}
+use Rattle.std.specs.List.{sum_by}
 use Rattle.std.proofs.lemmas.Bool.{true≢false}
 use Rattle.std.proofs.Math.Nat.{mul-le-mul_left}
 use Rattle.raid_base.specs.declared.names.Txn.{Txn}
@@ -9,7 +9,7 @@ use Rattle.raid_base.specs.declared.names.Item.{Item}
 use Rattle.raid_base.specs.declared.names.Site.{Site}
 use Rattle.raid_base.specs.declared.entry.Noted.{Noted}
 use Rattle.raid_base.specs.declared.entry.Answer.TheVariants.{Yes, No}
-use Rattle.raid_base.specs.Names.{is_txn, is_site, has_txn, has_site}
+use Rattle.raid_base.specs.Names.{is_txn, has_txn, has_site}
 use Rattle.raid_base.specs.Sites.{site}
 use Rattle.raid_program.specs.declared.program.Want.TheVariants as wants
 use Rattle.raid_program.specs.Run.{put}
@@ -19,7 +19,7 @@ use Rattle.raid_rules.specs.History.{has_begun}
 use Rattle.raid_message.specs.declared.letter.Message.{Message}
 use Rattle.raid_message.specs.declared.letter.Message.TheVariants as letters
 use Rattle.raid_message.specs.declared.letter.Letter.{Letter}
-use Rattle.raid_steps.specs.State.{Out, Turn, with_state, opened, send, tell, Phase, asking, preparing, sent, Running, SiteState}
+use Rattle.raid_steps.specs.State.{Turn, with_state, opened, send, tell, Phase, asking, preparing, sent, Running, SiteState}
 use Rattle.raid_steps.specs.Copies.{set_copy, unstage, stage, apply}
 use Rattle.raid_steps.specs.Programs.{running_of, runs_here, put_running, next_attempt}
 use Rattle.raid_steps.specs.Site as rows

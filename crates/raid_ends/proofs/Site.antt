@@ -1,8 +1,7 @@
 -- A site's step lowers the measure: each row, and each move after it. Where the site is told that another is up again, moves alone leave open how
 -- often programs are joined; that letter stands in another file.
-use Rattle.std.proofs.Common.{◌≡◌, ℕ, ℤ, zero, suc, ◌+◌, ◌-◌, ◌*◌, ◌<◌, ◌≤◌, ◌==◌, Bool, true, false, not, ◌&&◌, ◌||◌, List, [], ◌∷◌, ◌++◌, length, filter, map, Option, Some, None, if◌then◌else◌, arith, sym, subst, ap, ◌∙◌, refl}
-use Rattle.std.specs.Prelude.{count_by}
-use Rattle.std.specs.List.{AllByRecursion, sum_by}
+use Rattle.std.proofs.Common.{◌≡◌, ℕ, ℤ, ◌+◌, ◌-◌, ◌*◌, ◌≤◌, Bool, true, false, not, ◌&&◌, ◌||◌, List, [], ◌∷◌, ◌++◌, length, filter, map, Some, None, if◌then◌else◌, arith, sym, ap, ◌∙◌, refl}
+use Rattle.std.specs.List.{sum_by}
 use Rattle.std.proofs.lemmas.Bool.{true≢false}
 use Rattle.std.proofs.Math.Nat.{mul-le-mul_left}
 use Rattle.std.proofs.lemmas.List.Sums.{sum_by-cons, sum_by-append, sum_by_push}
@@ -11,31 +10,26 @@ use Rattle.raid_base.specs.declared.names.Item.{Item}
 use Rattle.raid_base.specs.declared.names.Site.{Site}
 use Rattle.raid_base.specs.declared.entry.Cause.TheVariants as causes
 use Rattle.raid_base.specs.declared.entry.Noted.{Noted}
-use Rattle.raid_base.specs.Names.{is_txn, is_site, has_txn, has_site}
-use Rattle.raid_base.specs.Sites.{site}
+use Rattle.raid_base.specs.Names.{is_site, has_txn, has_site}
 use Rattle.raid_program.specs.declared.program.Want.TheVariants as wants
-use Rattle.raid_program.specs.Run.{put}
 use Rattle.raid_workload.specs.declared.workload.Workload.{Workload}
-use Rattle.raid_workload.specs.Parts.{txns, sites, home}
-use Rattle.raid_rules.specs.History.{has_begun}
+use Rattle.raid_workload.specs.Parts.{txns, sites}
 use Rattle.raid_rules.specs.Sessions.{is_site_up}
 use Rattle.raid_legal.specs.Seen.{holds_some}
 use Rattle.raid_message.specs.declared.letter.Message.{Message}
 use Rattle.raid_message.specs.declared.letter.Message.TheVariants as letters
-use Rattle.raid_message.specs.declared.letter.Letter.{Letter}
-use Rattle.raid_steps.specs.State.{Out, Turn, tell, opened, Phase, asking, preparing, sent, Running, SiteState}
+use Rattle.raid_steps.specs.State.{Out, Turn, tell, Phase, asking, preparing, sent, Running, SiteState}
 use Rattle.raid_steps.specs.Copies.{stage}
-use Rattle.raid_steps.specs.Programs.{running_of, put_running, held_by, voters, prepare_out, next_attempt}
-use Rattle.raid_steps.specs.Site as rows
+use Rattle.raid_steps.specs.Programs.{put_running, held_by, voters, prepare_out}
 use Rattle.raid_moves.specs.Moves.{Ascend, Tells, comes_to, Goes, fresh, Begins, drops, Row, Move, passed, next_of}
 use Rattle.raid_moves.specs.Moves as parts
-use Rattle.raid_moves.proofs.Steps.{step_keeps, goes_put}
+use Rattle.raid_moves.proofs.Steps.{goes_put}
 use Rattle.raid_moves.proofs.Places.{program_of}
-use Rattle.raid_measure.specs.Measure.{read_cost, most_reads, commit_cost, start_cost, stop_cost, homed_at, letter_cost, phase_cost, program_cost, site_cost}
-use Rattle.raid_measure.proofs.Sums.{sum_grows, sum_of_sums, one_if}
+use Rattle.raid_measure.specs.Measure.{read_cost, most_reads, commit_cost, start_cost, letter_cost, phase_cost, program_cost}
+use Rattle.raid_measure.proofs.Sums.{sum_grows, one_if}
 use Rattle.raid_measure.proofs.Opening.{length_sites}
 use Rattle.raid_ends.proofs.Links.{outs_cost}
-use Rattle.raid_ends.proofs.Programs.{put_sum, put_most, kept_sum, runs, may_take_up, idle, idle_less, idle_put, idle_new, idle_over, idle_lost}
+use Rattle.raid_ends.proofs.Programs.{put_sum, put_most, may_take_up, idle, idle_put, idle_new}
 
 -- the program waits for a value of another site that it knows of: it asks again where that site is lost
 abbrev pub is_served : Phase → Bool
@@ -52,7 +46,7 @@ is_up_note (letters.UpNote s n) = true
 is_up_note other = false
 
 -- numbers
-times_less : (c a b : ℕ) → a + 1 ≤ b → c * a + c ≤ c * b
+pub times_less : (c a b : ℕ) → a + 1 ≤ b → c * a + c ≤ c * b
 times_less c a b l = let more = mul-le-mul_left c l in omega (arith, more)
 
 -- of some sites fewer pass a test that one of them doesn't

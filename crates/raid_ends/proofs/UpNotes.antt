@@ -2,7 +2,6 @@
 use Rattle.std.proofs.Common.{◌≡◌, ℕ, zero, suc, ◌+◌, ◌*◌, ◌<◌, ◌≤◌, ◌==◌, Bool, true, false, ◌&&◌, List, [], ◌∷◌, length, fold, Some, if◌then◌else◌, arith, sym, subst, ap, ◌∙◌, refl}
 use Rattle.std.specs.List.{AllByRecursion, sum_by}
 use Rattle.raid_base.specs.declared.names.Txn.{Txn}
-use Rattle.raid_base.specs.declared.names.Item.{Item}
 use Rattle.raid_base.specs.declared.names.Site.{Site}
 use Rattle.raid_base.specs.declared.entry.Noted.{Noted}
 use Rattle.raid_base.specs.Names.{has_site}
@@ -10,19 +9,18 @@ use Rattle.raid_base.specs.Sites.{site}
 use Rattle.raid_workload.specs.declared.workload.Workload.{Workload}
 use Rattle.raid_workload.specs.Parts.{sites}
 use Rattle.raid_legal.specs.Seen.{holds_some}
-use Rattle.raid_message.specs.declared.letter.Message.{Message}
 use Rattle.raid_message.specs.declared.letter.Message.TheVariants as letters
 use Rattle.raid_message.specs.declared.letter.Letter.{Letter}
 use Rattle.raid_steps.specs.State.{Turn, opened, send, Phase, asking, preparing, sent, Running, SiteState}
 use Rattle.raid_steps.specs.Fits.{is_of_sequencer, is_of_site}
-use Rattle.raid_steps.specs.Programs.{running_of, put_running, with_running, with_vote, prepare_out, held_by, join, ask_commits}
+use Rattle.raid_steps.specs.Programs.{running_of, with_running, with_vote, prepare_out, join, ask_commits}
 use Rattle.raid_steps.specs.Site as rows
 use Rattle.raid_moves.specs.Moves.{Ascend, Hears, Moves}
 use Rattle.raid_moves.specs.Moves as parts
-use Rattle.raid_moves.proofs.Steps.{asks_commits, ascend_move}
+use Rattle.raid_moves.proofs.Steps.{asks_commits}
 use Rattle.raid_moves.proofs.Left.{moves_leave}
 use Rattle.raid_moves.proofs.Places.{all_both, IsBehind, apart, ascend_put, put_other, IsFoundIn, each_found}
-use Rattle.raid_measure.specs.Measure.{start_cost, phase_cost, program_cost, site_cost}
+use Rattle.raid_measure.specs.Measure.{start_cost, program_cost, site_cost}
 use Rattle.raid_ends.proofs.Links.{outs_cost}
 use Rattle.raid_ends.proofs.Programs.{idle}
 use Rattle.raid_ends.proofs.Site as site_costs

@@ -1,11 +1,11 @@
 -- What a site has to be like so that the letter that it hears lowers the measure. In a run each site is so.
-use Rattle.std.specs.Prelude.{◌≡◌, ℕ, ℤ, ◌+◌, ◌≤◌, ◌==◌, Bool, true, false, not, ◌&&◌, List, length, filter, Option, Some}
+use Rattle.std.specs.Prelude.{◌≡◌, ℕ, ℤ, ◌+◌, ◌≤◌, ◌==◌, Bool, true, false, List, length, Option, Some}
 use Rattle.std.specs.List.{AllByRecursion}
 use Rattle.raid_base.specs.declared.names.Txn.{Txn}
 use Rattle.raid_base.specs.declared.names.Item.{Item}
 use Rattle.raid_base.specs.declared.names.Site.{Site}
 use Rattle.raid_base.specs.declared.entry.Noted.{Noted}
-use Rattle.raid_base.specs.Names.{is_txn, is_site, has_txn, has_site}
+use Rattle.raid_base.specs.Names.{is_site, has_txn, has_site}
 use Rattle.raid_program.specs.declared.program.Want.TheVariants as wants
 use Rattle.raid_program.specs.Run.{put}
 use Rattle.raid_workload.specs.declared.workload.Workload.{Workload}
@@ -14,7 +14,7 @@ use Rattle.raid_rules.specs.History.{has_begun}
 use Rattle.raid_message.specs.declared.letter.Message.TheVariants as letters
 use Rattle.raid_message.specs.declared.letter.Letter.{Letter}
 use Rattle.raid_steps.specs.State.{Turn, asking, Running, SiteState}
-use Rattle.raid_steps.specs.Programs.{running_of, runs_here, next_attempt, ended}
+use Rattle.raid_steps.specs.Programs.{running_of, runs_here, next_attempt}
 use Rattle.raid_moves.specs.Moves.{Ascend, Tells, comes_to, drops, next_of, Reached}
 use Rattle.raid_measure.specs.Measure.{most_reads, is_idle_at}
 
