@@ -2,6 +2,7 @@ pub mod Copies
 pub mod Histories
 pub mod Links
 pub mod Monitor
+pub mod Placing
 pub mod Programs
 pub mod Rows
 pub mod Sent
