@@ -23,6 +23,17 @@ use Rattle.raid_measure.specs.Measure.{copier_cost, events_of, downs_left, ups_l
 use Rattle.raid_measure.proofs.Sums.{sum_grows, one_if}
 use Rattle.raid_ends.proofs.Histories.{sum_grows_in, IsKnown, known_sites, same_site, after, ups_less, others_less, one_down, one_up, others_down, up_still, up_turned, locked_turned, session_none, session_other}
 
+-- a site that passes is among those that pass
+pub chosen : (test : Site → Bool) (s : Site) (ss : List Site) → test s ≡ true → has_site ss s ≡ true → has_site (filter test ss) s ≡ true
+chosen test s [] t q = absurd (true≢false (sym q))
+chosen test s (r ∷ rs) t q = go (is_site s r) refl (test r) refl q (chosen test s rs t)
+  where
+    go : (b : Bool) → is_site s r ≡ b → (c : Bool) → test r ≡ c → (b || has_site rs s) ≡ true → (has_site rs s ≡ true → has_site (filter test rs) s ≡ true) → has_site (if c then r ∷ filter test rs else filter test rs) s ≡ true
+    go true e true d q rest = ap (λ b. b || has_site (filter test rs) s) e
+    go true e false d q rest = absurd (true≢false (sym t ∙ ap test (sym (same_site s r e)) ∙ d))
+    go false e true d q rest = ap (λ b. b || has_site (filter test rs) s) e ∙ rest q
+    go false e false d q rest = rest q
+
 module _ (w : Workload) where
   -- the copy is under way
   abbrev pub way : List Copying → Site → Item → Bool
@@ -40,7 +51,7 @@ module _ (w : Workload) where
   abbrev pub copies_at : List Noted → List Copying → ℕ
   copies_at p copying = sum_by (λ s. sum_by (copy_at p copying s) (items w)) (sites w)
 
-  copies_less : (p q : List Noted) (out still : List Copying) → ((s : Site) → IsKnown w s → (x : Item) → inner q still s x ≤ inner p out s x) → copies_at q still ≤ copies_at p out
+  pub copies_less : (p q : List Noted) (out still : List Copying) → ((s : Site) → IsKnown w s → (x : Item) → inner q still s x ≤ inner p out s x) → copies_at q still ≤ copies_at p out
   copies_less p q out still each =
       sum_grows_in (IsKnown w) (λ s. sum_by (copy_at q still s) (items w)) (λ s. sum_by (copy_at p out s) (items w))
       (λ s k. sum_grows (copy_at q still s) (copy_at p out s) (λ x. less (has_site (holders (placement w) x) s) (inner q still s x) (inner p out s x) (each s k x)) (items w)) (sites w) (known_sites w)
@@ -49,12 +60,12 @@ module _ (w : Workload) where
       less true m n l = omega (arith, l)
       less false m n l = omega arith
 
-  at_most_one : (b : Bool) → one_if b ≤ 1
+  pub at_most_one : (b : Bool) → one_if b ≤ 1
   at_most_one true = omega arith
   at_most_one false = omega arith
 
   -- no more copies are to be renewed
-  renew_less : (u l y m z : Bool) → (u ≡ true → m ≡ true → l ≡ true) → (u ≡ true → m ≡ true → y ≡ true → z ≡ true) → one_if (u && m && not z) ≤ one_if (u && l && not y)
+  pub renew_less : (u l y m z : Bool) → (u ≡ true → m ≡ true → l ≡ true) → (u ≡ true → m ≡ true → y ≡ true → z ≡ true) → one_if (u && m && not z) ≤ one_if (u && l && not y)
   renew_less false l y m z locked kept = omega arith
   renew_less true l y false z locked kept = omega arith
   renew_less true false y true z locked kept = absurd (true≢false (sym (locked refl refl)))
@@ -63,7 +74,7 @@ module _ (w : Workload) where
   renew_less true true true true true locked kept = omega arith
 
   -- what doesn't end is still under way
-  kept_way : (test ends : Copying → Bool) (out : List Copying) → ((c : Copying) → test c ≡ true → ends c ≡ false) → list_any test out ≡ true → list_any test (filter (λ c. not (ends c)) out) ≡ true
+  pub kept_way : (test ends : Copying → Bool) (out : List Copying) → ((c : Copying) → test c ≡ true → ends c ≡ false) → list_any test out ≡ true → list_any test (filter (λ c. not (ends c)) out) ≡ true
   kept_way test ends [] stays q = absurd (true≢false (sym q))
   kept_way test ends (c ∷ cs) stays q = go (test c) refl (ends c) refl q (kept_way test ends cs stays)
     where
@@ -138,16 +149,6 @@ module _ (w : Workload) where
                 later : (a b : Bool) → b ≡ true → (a || b) ≡ true
                 later true b q = refl
                 later false b q = q
-
-        chosen : (test : Site → Bool) (s : Site) (ss : List Site) → test s ≡ true → has_site ss s ≡ true → has_site (filter test ss) s ≡ true
-        chosen test s [] t q = absurd (true≢false (sym q))
-        chosen test s (r ∷ rs) t q = go (is_site s r) refl (test r) refl q (chosen test s rs t)
-          where
-            go : (b : Bool) → is_site s r ≡ b → (c : Bool) → test r ≡ c → (b || has_site rs s) ≡ true → (has_site rs s ≡ true → has_site (filter test rs) s ≡ true) → has_site (if c then r ∷ filter test rs else filter test rs) s ≡ true
-            go true e true d q rest = ap (λ b. b || has_site (filter test rs) s) e
-            go true e false d q rest = absurd (true≢false (sym t ∙ ap test (sym (same_site s r e)) ∙ d))
-            go false e true d q rest = ap (λ b. b || has_site (filter test rs) s) e ∙ rest q
-            go false e false d q rest = rest q
 
         both : (a b : Bool) → a ≡ true → b ≡ true → (a && b) ≡ true
         both true b p q = q

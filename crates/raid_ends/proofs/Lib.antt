@@ -4,8 +4,10 @@ pub mod Links
 pub mod Monitor
 pub mod Placing
 pub mod Programs
+pub mod Renewals
 pub mod Rows
 pub mod Sent
+pub mod Sequencer
 pub mod Site
 pub mod Sites
 pub mod UpNotes

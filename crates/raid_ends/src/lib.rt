@@ -1,6 +1,7 @@
-//! Each pick lowers the measure: of the monitor, and of the sites where they are ready.
+//! Each pick lowers the measure: that of the monitor whatever the world is, that of a site or of the sequencer where it may hear the letter.
 //!
-//! `specs/Ready` says what a site has to be like. The functions do nothing: each is a law, and its contract says it.
+//! `specs/Ready` says what a site has to be like, `specs/Placing` what the sequencer may place. The functions do nothing: each is a law, and its
+//! contract says it.
 #![tactic(auto)]
 
 ghost use Rattle.std.specs.Prelude.{◌≡◌, ◌<◌, ◌+◌, ℕ, true, List, ◌∷◌, Some, slice_get};
@@ -12,6 +13,7 @@ ghost use Rattle.raid_message.specs.declared.letter.Pick.{Pick};
 ghost use Rattle.raid_steps.specs.State.{SiteState};
 ghost use Rattle.raid_steps.specs.World.{World, link, pick, finds};
 ghost use Rattle.raid_measure.specs.Measure.{measure};
+ghost use Rattle.raid_ends.specs.Placing.{MayHear};
 ghost use Rattle.raid_ends.specs.Ready.{Ready};
 
 /// Whatever the world is: a letter that the monitor takes lowers the measure.
@@ -24,4 +26,10 @@ pub fn picks_of_the_monitor_lower_the_measure()
 #[tactic(auto, using(crate::proofs::Sites::site_lowers))]
 pub fn picks_of_sites_lower_the_measure()
     ensures { (w : Workload) (state : World) (k : ℕ) (s : SiteState) → slice_get state.servers.sites k ≡ Some s → s.site ≡ site (k + 1) → (p : Pick) → p.server ≡ k + 2 → ((letter : Letter) (rest : List Letter) → link state.links p.server p.from ≡ letter ∷ rest → Ready w (noted state.servers.sequencer.history) s p.from letter) → finds state p ≡ true → measure w (pick w state p) < measure w state }
+{}
+
+/// A letter that the sequencer takes lowers the measure, where it may hear it.
+#[tactic(auto, using(crate::proofs::Sequencer::sequencer_lowers))]
+pub fn picks_of_the_sequencer_lower_the_measure()
+    ensures { (w : Workload) (state : World) (p : Pick) → p.server ≡ 1 → ((letter : Letter) (rest : List Letter) → link state.links p.server p.from ≡ letter ∷ rest → MayHear w state.servers.sequencer p.from letter) → finds state p ≡ true → measure w (pick w state p) < measure w state }
 {}
