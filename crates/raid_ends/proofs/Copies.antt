@@ -1,5 +1,5 @@
 -- What one more entry does to the part of the measure that copies have.
-use Rattle.std.proofs.Common.{◌≡◌, ℕ, ℤ, zero, suc, ◌+◌, ◌-◌, ◌*◌, ◌<◌, ◌≤◌, ◌==◌, nat_lt, Bool, true, false, not, ◌&&◌, ◌||◌, List, [], ◌∷◌, ◌++◌, length, filter, if◌then◌else◌, arith, sym, subst, ap, ◌∙◌, refl}
+use Rattle.std.proofs.Common.{◌≡◌, ℕ, ℤ, ◌+◌, ◌-◌, ◌*◌, ◌<◌, ◌≤◌, ◌==◌, nat_lt, Bool, true, false, not, ◌&&◌, ◌||◌, List, [], ◌∷◌, filter, if◌then◌else◌, arith, sym, subst, ap, ◌∙◌, refl}
 use Rattle.std.specs.List.{list_any, sum_by}
 use Rattle.std.proofs.lemmas.Bool.{true≢false, and_parts, eqb-true}
 use Rattle.std.proofs.lemmas.Grind.{common_steps}
@@ -11,7 +11,6 @@ use Rattle.raid_base.specs.declared.entry.Entry.{Entry}
 use Rattle.raid_base.specs.declared.entry.Entry.TheVariants.{Commit, Down, Up, Clear}
 use Rattle.raid_base.specs.declared.entry.Noted.{Noted}
 use Rattle.raid_base.specs.Names.{is_item, is_site, has_site, holds}
-use Rattle.raid_base.specs.Sites.{session}
 use Rattle.raid_workload.specs.declared.workload.Workload.{Workload}
 use Rattle.raid_workload.specs.Parts.{sites, items, placement}
 use Rattle.raid_rules.specs.Sessions.{holders, turn_vector, turn_lock, is_copy_locked}
@@ -19,7 +18,7 @@ use Rattle.raid_legal.specs.Seen.{vector, is_up, is_locked, holds_some, up_holde
 use Rattle.raid_legal.specs.Legal.{downs, ups}
 use Rattle.raid_steps.specs.State.{Copying}
 use Rattle.raid_steps.specs.Sequencer.{ends_copying}
-use Rattle.raid_measure.specs.Measure.{copier_cost, events_of, downs_left, ups_left, other_downs_left}
+use Rattle.raid_measure.specs.Measure.{copier_cost, events_of, ups_left, other_downs_left}
 use Rattle.raid_measure.proofs.Sums.{sum_grows, one_if}
 use Rattle.raid_ends.proofs.Histories.{sum_grows_in, IsKnown, known_sites, same_site, after, ups_less, others_less, one_down, one_up, others_down, up_still, up_turned, locked_turned, session_none, session_other}
 
@@ -104,9 +103,9 @@ module _ (w : Workload) where
         let up = ups_less w p (note e) s in
         let others = others_less w p (note e) s in
         let renew : one_if (renew_at (after w p (note e)) (still e) s x) ≤ one_if (renew_at p out s x) =
-            subst (λ u. one_if (u && is_locked w (after w p (note e)) s x && not (way (still e) s x)) ≤ one_if (renew_at p out s x)) (sym same)
-            (subst (λ l. one_if (is_up w p s && l && not (way (still e) s x)) ≤ one_if (renew_at p out s x)) (sym (locked_turned w p (note e) s x))
-            (renew_less (is_up w p s) (is_locked w p s x) (way out s x) (locked_after e s x) (way (still e) s x) locked (λ u l y. kept_way (λ (c : Copying). is_site s c.target && is_item x c.item) (ends_copying e) out (kept u l) y))) in
+        subst (λ u. one_if (u && is_locked w (after w p (note e)) s x && not (way (still e) s x)) ≤ one_if (renew_at p out s x)) (sym same)
+        (subst (λ l. one_if (is_up w p s && l && not (way (still e) s x)) ≤ one_if (renew_at p out s x)) (sym (locked_turned w p (note e) s x))
+        (renew_less (is_up w p s) (is_locked w p s x) (way out s x) (locked_after e s x) (way (still e) s x) locked (λ u l y. kept_way (λ (c : Copying). is_site s c.target && is_item x c.item) (ends_copying e) out (kept u l) y))) in
         omega (arith, up, others, renew)
 
     -- an entry that leaves all sessions

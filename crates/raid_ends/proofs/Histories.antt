@@ -1,7 +1,7 @@
 -- What one more entry does to the parts of the measure that are read off the history.
-use Rattle.std.proofs.Common.{◌≡◌, ℕ, zero, suc, ◌+◌, ◌-◌, ◌*◌, ◌<◌, ◌≤◌, ◌==◌, nat_lt, Bool, true, false, not, ◌&&◌, ◌||◌, List, [], ◌∷◌, ◌++◌, length, filter, map, if◌then◌else◌, arith, sym, subst, ap, ◌∙◌, refl}
+use Rattle.std.proofs.Common.{◌≡◌, ℕ, zero, suc, ◌+◌, ◌*◌, ◌<◌, ◌≤◌, ◌==◌, nat_lt, Bool, true, false, not, ◌&&◌, ◌||◌, List, [], ◌∷◌, ◌++◌, map, if◌then◌else◌, arith, sym, subst, ap, ◌∙◌, refl}
 use Rattle.std.specs.Prelude.{count_by, slice_set, slice_index}
-use Rattle.std.specs.List.{AllByRecursion, list_any, sum_by}
+use Rattle.std.specs.List.{AllByRecursion, sum_by}
 use Rattle.std.proofs.Math.Nat.{mul-le-mul_left}
 use Rattle.std.proofs.lemmas.Bool.{true≢false, eqb-true}
 use Rattle.std.proofs.lemmas.Grind.{common_steps}
@@ -9,21 +9,20 @@ use Rattle.std.proofs.lemmas.List.Sums.{sum_by-cons, sum_by_push}
 use Rattle.raid_base.specs.declared.names.Txn.{Txn}
 use Rattle.raid_base.specs.declared.names.Item.{Item}
 use Rattle.raid_base.specs.declared.names.Site.{Site}
-use Rattle.raid_base.specs.declared.entry.Entry.{Entry}
 use Rattle.raid_base.specs.declared.entry.Noted.{Noted}
-use Rattle.raid_base.specs.Names.{is_txn, is_item, is_site, has_txn, has_site, holds}
+use Rattle.raid_base.specs.Names.{is_site, has_txn, has_site}
 use Rattle.raid_base.specs.Sites.{site, session}
 use Rattle.raid_workload.specs.declared.workload.Workload.{Workload}
-use Rattle.raid_workload.specs.Parts.{count_from, txns, sites, items, placement, home}
-use Rattle.raid_rules.specs.Entries.{is_begin_of, is_end_of, is_end, is_down, is_up as is_up_entry}
-use Rattle.raid_rules.specs.History.{has_begun, has_ended, ends}
+use Rattle.raid_workload.specs.Parts.{count_from, txns, sites, placement, home}
+use Rattle.raid_rules.specs.Entries.{is_begin_of, is_end_of, is_down, is_up as is_up_entry}
+use Rattle.raid_rules.specs.History.{has_begun, has_ended}
 use Rattle.raid_rules.specs.Sessions.{holders, turn_vector, turn_lock, is_copy_locked}
 use Rattle.raid_rules.proofs.Push.{has_begun_push, vector_push, is_copy_locked_push}
 use Rattle.raid_legal.specs.Seen.{vector, is_up, is_locked}
 use Rattle.raid_legal.specs.Legal.{downs, ups}
-use Rattle.raid_steps.specs.State.{Copying, SiteState}
+use Rattle.raid_steps.specs.State.{SiteState}
 use Rattle.raid_steps.specs.Programs.{runs_here}
-use Rattle.raid_measure.specs.Measure.{start_cost, end_cost, down_cost, up_cost, copier_cost, ends_cost, is_idle_at, site_cost, events_of, downs_left, ups_left, turns_cost, other_downs_left}
+use Rattle.raid_measure.specs.Measure.{start_cost, end_cost, down_cost, up_cost, ends_cost, is_idle_at, site_cost, events_of, downs_left, ups_left, turns_cost, other_downs_left}
 use Rattle.raid_measure.proofs.Sums.{sum_grows, one_if}
 use Rattle.raid_ends.proofs.Programs.{count_less}
 use Rattle.raid_ends.proofs.Site.{times_less}
@@ -62,9 +61,10 @@ known_sites w = each 1 w.sites (omega arith) (sites w) (λ s q. q)
 
     each : (k n : ℕ) → 1 ≤ k → (all : List Site) → ((s : Site) → has_site (map site (count_from k n)) s ≡ true → has_site all s ≡ true) → AllByRecursion (λ s. (1 ≤ s.0) × (has_site all s ≡ true)) (map site (count_from k n))
     each k zero l all inside = tt
-    each k (suc n) l all inside =
-        ((l, inside (site k) (self k (has_site (map site (count_from (k + 1) n)) (site k)))),
-        each (k + 1) n (omega arith) all (λ s q. inside s (later (k == s.0) (has_site (map site (count_from (k + 1) n)) s) q)))
+    each k (suc n) l all inside = (
+      (l, inside (site k) (self k (has_site (map site (count_from (k + 1) n)) (site k)))),
+      each (k + 1) n (omega arith) all (λ s q. inside s (later (k == s.0) (has_site (map site (count_from (k + 1) n)) s) q)),
+    )
 
 pub same_site : (s r : Site) → is_site s r ≡ true → r ≡ s
 same_site s r q = ap (λ k. let z : Site = record { 0 = k } in z) (eqb-true r.0 s.0 q)
@@ -112,7 +112,7 @@ module _ (w : Workload) (p : List Noted) (n : Noted) where
       one : (s : SiteState) → site_cost w after s ≤ site_cost w p s
       one s =
           let fewer = sum_grows (λ t. one_if (is_idle_at w after s t)) (λ t. one_if (is_idle_at w p s t))
-                  (λ t. subst (λ b. one_if (is_site s.site (home w t) && not b && not (runs_here s t)) ≤ one_if (is_idle_at w p s t)) (sym (has_begun_push p n t)) (less (is_site s.site (home w t)) (has_begun p t) (is_begin_of t n.entry) (runs_here s t))) (txns w) in
+          (λ t. subst (λ b. one_if (is_site s.site (home w t) && not b && not (runs_here s t)) ≤ one_if (is_idle_at w p s t)) (sym (has_begun_push p n t)) (less (is_site s.site (home w t)) (has_begun p t) (is_begin_of t n.entry) (runs_here s t))) (txns w) in
           let times : start_cost w * count_by (is_idle_at w after s) (txns w) ≤ start_cost w * count_by (is_idle_at w p s) (txns w) = mul-le-mul_left (start_cost w) fewer in
           omega (arith, times)
 

@@ -6,8 +6,10 @@ pub mod Placing
 pub mod Programs
 pub mod Renewals
 pub mod Rows
+pub mod Runs
 pub mod Sent
 pub mod Sequencer
 pub mod Site
 pub mod Sites
+pub mod Together
 pub mod UpNotes

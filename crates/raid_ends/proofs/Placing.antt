@@ -1,9 +1,8 @@
 -- An entry pays for what it sends: it lowers the measure by as much, but for a Read, whose ask pays the rest.
-use Rattle.std.proofs.Common.{◌≡◌, ℕ, zero, suc, ◌+◌, ◌-◌, ◌*◌, ◌<◌, ◌≤◌, ◌==◌, nat_lt, Bool, true, false, not, ◌&&◌, ◌||◌, List, [], ◌∷◌, ◌++◌, filter, map, arith, sym, subst, ap, ◌∙◌, refl}
+use Rattle.std.proofs.Common.{◌≡◌, ℕ, zero, suc, ◌+◌, ◌-◌, ◌≤◌, ◌==◌, nat_lt, Bool, true, false, not, ◌&&◌, ◌||◌, List, [], ◌∷◌, ◌++◌, filter, map, arith, sym, subst, ap, ◌∙◌, refl}
 use Rattle.std.specs.List.{sum_by}
 use Rattle.std.proofs.lemmas.Bool.{true≢false}
 use Rattle.std.proofs.lemmas.List.Sums.{sum_by-append, sum_by_push}
-use Rattle.raid_base.specs.declared.names.Txn.{Txn}
 use Rattle.raid_base.specs.declared.names.Site.{Site}
 use Rattle.raid_base.specs.declared.entry.Entry.{Entry}
 use Rattle.raid_base.specs.declared.entry.Entry.TheVariants.{Begin, Read, Wait, Commit, Abort, Ack, SwitchOn, SwitchEnd, Down, Up, Clear}
@@ -13,7 +12,7 @@ use Rattle.raid_base.specs.Sites.{site}
 use Rattle.raid_workload.specs.declared.workload.Workload.{Workload}
 use Rattle.raid_workload.specs.Parts.{count_from, sites}
 use Rattle.raid_rules.specs.Entries.{is_end}
-use Rattle.raid_rules.specs.History.{noted, next, ends}
+use Rattle.raid_rules.specs.History.{next, ends}
 use Rattle.raid_rules.proofs.Push.{noted_push}
 use Rattle.raid_legal.specs.Seen.{vector, is_up, is_restartable, attempt}
 use Rattle.raid_steps.specs.State.{Out, Turn, Sequencer, Copying, SiteState}

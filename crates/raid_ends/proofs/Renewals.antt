@@ -1,11 +1,11 @@
 -- Copies that are sent for, and copies that are under way no more.
-use Rattle.std.proofs.Common.{◌≡◌, ℕ, zero, suc, ◌+◌, ◌*◌, ◌<◌, ◌≤◌, ◌==◌, Bool, true, false, not, ◌&&◌, ◌||◌, List, [], ◌∷◌, ◌++◌, length, filter, map, flat_map, option_map, Option, Some, None, if◌then◌else◌, arith, sym, subst, ap, ◌∙◌, refl, length-append}
+use Rattle.std.proofs.Common.{◌≡◌, ℕ, suc, ◌+◌, ◌*◌, ◌≤◌, Bool, true, false, not, ◌&&◌, ◌||◌, List, [], ◌∷◌, ◌++◌, length, filter, map, flat_map, option_map, Option, Some, None, if◌then◌else◌, arith, sym, subst, ap, ◌∙◌, refl, length-append}
 use Rattle.std.specs.Prelude.{filter_map, slice_get}
 use Rattle.std.specs.List.{AllByRecursion, list_any, sum_by}
 use Rattle.std.proofs.lemmas.Bool.{true≢false, and_parts, eqb-true}
 use Rattle.std.proofs.lemmas.Grind.{common_steps}
 use Rattle.std.proofs.lemmas.List.Folds.{list_any-append}
-use Rattle.std.proofs.lemmas.List.Sums.{sum_by-cons, sum_by-append}
+use Rattle.std.proofs.lemmas.List.Sums.{sum_by-cons}
 use Rattle.raid_base.specs.declared.names.Item.{Item}
 use Rattle.raid_base.specs.declared.names.Site.{Site}
 use Rattle.raid_base.specs.declared.entry.Noted.{Noted}
@@ -13,10 +13,10 @@ use Rattle.raid_base.specs.Names.{is_item, is_site, has_site}
 use Rattle.raid_workload.specs.declared.workload.Workload.{Workload}
 use Rattle.raid_workload.specs.Parts.{sites, items, placement}
 use Rattle.raid_rules.specs.Sessions.{holders, is_copy_locked}
-use Rattle.raid_legal.specs.Seen.{vector, is_up, is_locked, sources}
+use Rattle.raid_legal.specs.Seen.{is_up, is_locked, sources}
 use Rattle.raid_steps.specs.State.{Out, Copying}
 use Rattle.raid_steps.specs.Sequencer.{copies_due, copy_out}
-use Rattle.raid_measure.specs.Measure.{copier_cost, letter_cost, ups_left, other_downs_left}
+use Rattle.raid_measure.specs.Measure.{copier_cost, letter_cost}
 use Rattle.raid_measure.proofs.Sums.{sum_grows, one_if}
 use Rattle.raid_ends.proofs.Links.{outs_cost}
 use Rattle.raid_ends.proofs.Histories.{IsKnown, known_sites, same_site}
@@ -150,7 +150,7 @@ module _ (w : Workload) (p : List Noted) (out : List Copying) where
           let parts = and_parts (is_locked w p s x) (not (way w out s x)) q in
           let held = and_parts (has_site (holders (placement w) x) s) (is_copy_locked p s x) parts.0 in
           let mine : list_any (λ (c : Copying). is_site s c.target && is_item x c.item) (copies_due w p out s) ≡ true =
-                  any_made is_item same_item (λ (c : Copying). is_site s c.target && is_item x c.item) (due_of s) x (let c : Copying = record { target = s; item = x; source = r } in c) made (both (is_site s s) (is_item x x) (own_site s) (own_item x)) (items w) there in
+          any_made is_item same_item (λ (c : Copying). is_site s c.target && is_item x c.item) (due_of s) x (let c : Copying = record { target = s; item = x; source = r } in c) made (both (is_site s s) (is_item x x) (own_site s) (own_item x)) (items w) there in
           let among : way w all_due s x ≡ true = any_flat (λ (c : Copying). is_site s c.target && is_item x c.item) (copies_due w p out) s mine (filter (is_up w p) (sites w)) (chosen (is_up w p) s (sites w) up known) in
           let now : way w (out ++ all_due) s x ≡ true = list_any-append (λ (c : Copying). is_site s c.target && is_item x c.item) out all_due ∙ late (way w out s x) (way w all_due s x) among in
           let after : one_if (renew_at w p (out ++ all_due) s x) ≡ 0 = ap (λ b. one_if (is_up w p s && is_locked w p s x && not b)) now ∙ none (is_up w p s && is_locked w p s x) in
@@ -168,7 +168,7 @@ module _ (w : Workload) (p : List Noted) (out : List Copying) where
       from : (b : Bool) → (is_locked w p s x && not (way w out s x)) ≡ b → (o : Option Site) → slice_get (sources w p x) 0 ≡ o → copy_at w p (out ++ all_due) s x + copier_cost * one_if (some (due_of s x)) ≤ copy_at w p out s x
       from true q (Some r) e =
           let made : due_of s x ≡ Some (let c : Copying = record { target = s; item = x; source = r } in c) =
-                  ap (λ b. if b then option_map (λ r. let c : Copying = record { target = s; item = x; source = r } in c) (slice_get (sources w p x) 0) else None) q ∙ ap (option_map (λ r. let c : Copying = record { target = s; item = x; source = r } in c)) e in
+          ap (λ b. if b then option_map (λ r. let c : Copying = record { target = s; item = x; source = r } in c) (slice_get (sources w p x) 0) else None) q ∙ ap (option_map (λ r. let c : Copying = record { target = s; item = x; source = r } in c)) e in
           let one : one_if (some (due_of s x)) ≡ 1 = ap (λ (o : Option Copying). one_if (some o)) made in
           let pays = sent_for q r made in
           omega (arith, one, pays)
@@ -221,10 +221,10 @@ module _ (w : Workload) (p : List Noted) (out : List Copying) where
           go true q =
               let parts = and_parts (is_site z s) (is_item y x) q in
               let none : one_if (renew_at w p left s x) ≡ 0 =
-                      ap (λ b. one_if (b && not (way w left s x))) (ap (λ r. is_up w p r && is_locked w p r x) (same_site z s parts.0) ∙ ap (λ t. is_up w p z && is_locked w p z t) (same_item y x parts.1) ∙ quiet) in
+              ap (λ b. one_if (b && not (way w left s x))) (ap (λ r. is_up w p r && is_locked w p r x) (same_site z s parts.0) ∙ ap (λ t. is_up w p z && is_locked w p z t) (same_item y x parts.1) ∙ quiet) in
               omega (arith, none)
           go false q =
               let renew : one_if (renew_at w p left s x) ≤ one_if (renew_at w p out s x) =
-                      renew_less w (is_up w p s) (is_locked w p s x) (way w out s x) (is_locked w p s x) (way w left s x) (λ u l. l)
-                      (λ u l y2. kept_way w (λ (c : Copying). is_site s c.target && is_item x c.item) (λ c. is_site z c.target && is_item y c.item) out (other q) y2) in
+              renew_less w (is_up w p s) (is_locked w p s x) (way w out s x) (is_locked w p s x) (way w left s x) (λ u l. l)
+              (λ u l y2. kept_way w (λ (c : Copying). is_site s c.target && is_item x c.item) (λ c. is_site z c.target && is_item y c.item) out (other q) y2) in
               omega (arith, renew)

@@ -23,7 +23,7 @@ use Rattle.raid_steps.specs.State.{Turn, with_state, opened, send, tell, Phase, 
 use Rattle.raid_steps.specs.Copies.{set_copy, unstage, stage, apply}
 use Rattle.raid_steps.specs.Programs.{running_of, runs_here, put_running, next_attempt}
 use Rattle.raid_steps.specs.Site as rows
-use Rattle.raid_moves.specs.Moves.{Ascend, Tells, comes_to, fresh, drops, Row, Move, passed, next_of, but}
+use Rattle.raid_moves.specs.Moves.{Ascend, Tells, comes_to, fresh, drops, Row, Move, passed, next_of, but, Starts}
 use Rattle.raid_moves.specs.Moves as parts
 use Rattle.raid_moves.proofs.Steps.{step_keeps, goes_put}
 use Rattle.raid_moves.proofs.Left.{goes_leave}
@@ -107,9 +107,11 @@ module _ (w : Workload) (p : List Noted) (s : Site) (here : has_site (sites w) s
     nothing_sent turn none place runs =
         let most = site_costs.loads_most w p s here again state.running in
         let pays = sound.pays in
-        let fits : outs_cost w [] + (start_cost w * idle w p s state.running + loads state.running) + 1 ≤ own_cost + before = omega (arith, most, pays) in
-        (place ∙ sound.place, subst (λ rs. outs_cost w turn.outs + (start_cost w * idle w p s rs + loads rs) + 1 ≤ own_cost + before) (sym runs)
-        (subst (λ outs. outs_cost w outs + (start_cost w * idle w p s state.running + loads state.running) + 1 ≤ own_cost + before) (sym none) fits))
+        let fits : outs_cost w [] + (start_cost w * idle w p s state.running + loads state.running) + 1 ≤ own_cost + before = omega (arith, most, pays) in (
+          place ∙ sound.place,
+          subst (λ rs. outs_cost w turn.outs + (start_cost w * idle w p s rs + loads rs) + 1 ≤ own_cost + before) (sym runs)
+              (subst (λ outs. outs_cost w outs + (start_cost w * idle w p s state.running + loads state.running) + 1 ≤ own_cost + before) (sym none) fits),
+        )
 
     -- one program changes its phase
     phase_changes : (m : Message) → letter.message ≡ m → again_cost m ≡ 0 → 1 ≤ letter_cost w server m → (r : Running) (phase : Phase) → running_of state r.txn ≡ Some r → phase_cost w (length r.answers) phase ≡ program_cost w r →
@@ -135,9 +137,11 @@ module _ (w : Workload) (p : List Noted) (s : Site) (here : has_site (sites w) s
 
     -- each row
     row_costs : {after : Turn SiteState} → Row w state from letter after → Costs after
-    row_costs (parts.halts u f m) =
-        (sound.place, halts_numbers (start_cost w) (idle w p s []) (idle w p s state.running) (length state.running) w.together own_cost (sum_by (program_cost w) state.running)
-        (idle_lost w p s state.running) sound.few (costs_of letters.Stop m))
+    row_costs (parts.halts u f m) = (
+      sound.place,
+      halts_numbers (start_cost w) (idle w p s []) (idle w p s state.running) (length state.running) w.together own_cost (sum_by (program_cost w) state.running)
+          (idle_lost w p s state.running) sound.few (costs_of letters.Stop m),
+    )
     row_costs (parts.returns u f m) = same letters.Return m refl (rows.return_row state) refl refl (omega arith)
     row_costs (parts.refuses k t writes u f l m) = same (letters.Prepare t writes) m refl (send (opened state) (k + 2, letter.from, letters.Vote t (No letter.to state.session))) refl refl (omega arith)
     row_costs (parts.idle i) = nothing_sent (opened state) refl refl refl
@@ -175,7 +179,7 @@ module _ (w : Workload) (p : List Noted) (s : Site) (here : has_site (sites w) s
         fits : (m : Message) → letter.message ≡ m → again_cost m ≡ 0 → 1 ≤ letter_cost w server m → Costs after
         fits m is none some =
             let held : (new : Running) → new.txn ≡ r.txn → loads (put_running new state.running) + load r ≤ loads state.running + load new =
-                (λ new q. let sum = put_sum load new state.running r sound.ascend (ap (λ t. program_of t state.running) q ∙ f) in omega (arith, sum)) in
+            (λ new q. let sum = put_sum load new state.running r sound.ascend (ap (λ t. program_of t state.running) q ∙ f) in omega (arith, sum)) in
             let cost = site_costs.goes_cost w p s here again (opened state) now sound.place known.few (load r) held g in
             let fewer = goes_put w (λ rs. idle w p s rs ≤ idle w p s state.running) (opened state) now (λ new q. idle_put w p s new state.running) g in
             let times = site_costs.idle_times w p s here again state.running after.state.running fewer in
@@ -190,10 +194,10 @@ module _ (w : Workload) (p : List Noted) (s : Site) (here : has_site (sites w) s
         given (parts.read_elsewhere j v m) = fits (letters.Value r.txn k v) m.is refl (omega arith)
 
     -- each move
-    module _ (J : Turn SiteState → Type 0) (starts : (turn : Turn SiteState) → J turn → turn.state.site ≡ s → (turn.state.next == 0) ≡ false → (has_txn (txns w) (next_of turn) ≡ true) × (may_take_up w p s turn.state.running (next_of turn) ≡ true)) where
+    module _ (J : Turn SiteState → Type 0) (starts : Starts w state from letter → (turn : Turn SiteState) → J turn → turn.state.site ≡ s → (turn.state.next == 0) ≡ false → (has_txn (txns w) (next_of turn) ≡ true) × (may_take_up w p s turn.state.running (next_of turn) ≡ true)) where
       move_costs : {turn after : Turn SiteState} → Move w state from letter turn after → Ascend turn.state.running → J turn → Costs turn → Costs after
       move_costs {turn = turn} {after = after} (parts.begins b n l g) a j c =
-          let may = starts turn j c.0 n in
+          let may = starts b turn j c.0 n in
           let up : Spent after ≤ Spent turn = site_costs.taken_up w p s here again (passed w turn) (next_of turn) c.0 may.0 may.1 g in
           let was = c.1 in
           ((goes_leave w (tell (passed w turn) (letters.Begin (next_of turn))) (fresh (next_of turn)) g).site ∙ c.0, omega (arith, up, was))

@@ -1,5 +1,5 @@
 -- What the letters cost that an entry sends.
-use Rattle.std.proofs.Common.{◌≡◌, ℕ, zero, suc, ◌+◌, ◌-◌, ◌*◌, ◌<◌, ◌≤◌, ◌==◌, Bool, true, false, not, ◌&&◌, ◌||◌, List, [], ◌∷◌, ◌++◌, length, filter, map, flat_map, if◌then◌else◌, arith, sym, subst, ap, ◌∙◌, refl}
+use Rattle.std.proofs.Common.{◌≡◌, ℕ, suc, ◌+◌, ◌-◌, ◌*◌, ◌≤◌, Bool, true, false, not, ◌&&◌, List, [], ◌∷◌, ◌++◌, length, filter, map, flat_map, if◌then◌else◌, arith, ap, ◌∙◌, refl}
 use Rattle.std.specs.Prelude.{count_by}
 use Rattle.std.specs.List.{sum_by}
 use Rattle.std.proofs.Math.Nat.{mul-le-mul_left}
@@ -18,7 +18,7 @@ use Rattle.raid_message.specs.declared.letter.Message.TheVariants as letters
 use Rattle.raid_steps.specs.State.{Out, to_site}
 use Rattle.raid_steps.specs.Sequencer.{to_all, read_sends, commit_sends, up_sends, next_number}
 use Rattle.raid_measure.specs.Measure.{read_cost, down_cost, up_cost, homed_at, letter_cost}
-use Rattle.raid_measure.proofs.Sums.{sum_grows, sum_of_sums, sum_of_times, one_if, one_site, counted_by_site}
+use Rattle.raid_measure.proofs.Sums.{sum_grows, one_if, one_site, counted_by_site}
 use Rattle.raid_measure.proofs.Opening.{length_sites}
 use Rattle.raid_ends.proofs.Links.{outs_cost}
 use Rattle.raid_ends.proofs.Site.{one_fails}

@@ -1,6 +1,5 @@
 -- The sequencer's step lowers the measure, where each entry may be placed that it places.
-use Rattle.std.proofs.Common.{◌≡◌, ℕ, zero, suc, ◌+◌, ◌*◌, ◌<◌, ◌≤◌, ◌==◌, nat_lt, nat_le, Bool, true, false, not, ◌&&◌, ◌||◌, List, [], ◌∷◌, ◌++◌, length, map, Option, Some, None, if◌then◌else◌, arith, sym, subst, ap, ◌∙◌, refl}
-use Rattle.std.specs.List.{sum_by}
+use Rattle.std.proofs.Common.{◌≡◌, ℕ, zero, suc, ◌+◌, ◌<◌, ◌≤◌, ◌==◌, nat_lt, nat_le, Bool, true, false, not, ◌&&◌, ◌||◌, List, [], ◌∷◌, ◌++◌, map, Option, Some, None, if◌then◌else◌, arith, sym, subst, ap, ◌∙◌, refl}
 use Rattle.std.specs.Option.{option_map_or}
 use Rattle.std.proofs.lemmas.Bool.{true≢false}
 use Rattle.std.proofs.lemmas.Grind.{common_steps}
@@ -28,7 +27,6 @@ use Rattle.raid_rules.specs.Sessions.{holders, is_copy_locked, owes}
 use Rattle.raid_rules.proofs.Push.{noted_push}
 use Rattle.raid_legal.specs.Seen.{vector, is_up, is_locked}
 use Rattle.raid_legal.specs.Answers.{answer_read, answer_commit, answered, decided, waits, closes_waits, site_refusal}
-use Rattle.raid_legal.specs.InForce.{verdict}
 use Rattle.raid_legal.specs.Forced.{forced}
 use Rattle.raid_legal.specs.Legal.{is_free, may_begin, EachSeeing}
 use Rattle.raid_legal.proofs.Left.{Compels, forced_compels}
@@ -37,7 +35,7 @@ use Rattle.raid_message.specs.declared.letter.Message.{Message}
 use Rattle.raid_message.specs.declared.letter.Message.TheVariants as letters
 use Rattle.raid_message.specs.declared.letter.Letter.{Letter}
 use Rattle.raid_message.specs.declared.letter.Pick.{Pick}
-use Rattle.raid_steps.specs.State.{Out, Turn, opened, Sequencer, Copying, SiteState}
+use Rattle.raid_steps.specs.State.{Out, Turn, opened, Sequencer, SiteState}
 use Rattle.raid_steps.specs.Fits.{is_to_sequencer, knows_site}
 use Rattle.raid_steps.specs.Sequencer as seq
 use Rattle.raid_steps.specs.Sequencer.{so_far, place, place_if, settle, settle_from, hear_sequencer}

@@ -189,6 +189,6 @@ module _ (w : Workload) (p : List Noted) (s : Site) (here : has_site (sites w) s
       let begin = told_one turn.outs (1, 0, letters.Begin t) in
       let cost = goes_cost (tell turn (letters.Begin t)) (fresh t) place (λ x e. omega arith) 0 (λ now q. let most = put_most load now turn.state.running in omega (arith, most)) begun in
       let fewer = goes_put w (λ rs. idle w p s rs + 1 ≤ idle w p s turn.state.running) (tell turn (letters.Begin t)) (fresh t)
-              (λ now q. idle_new w p s now turn.state.running (ap (has_txn (txns w)) q ∙ known) (ap (may_take_up w p s turn.state.running) q ∙ may)) begun in
+      (λ now q. idle_new w p s now turn.state.running (ap (has_txn (txns w)) q ∙ known) (ap (may_take_up w p s turn.state.running) q ∙ may)) begun in
       let times = times_less (start_cost w) (idle w p s after.state.running) (idle w p s turn.state.running) fewer in
       omega (arith, begin, cost, times)

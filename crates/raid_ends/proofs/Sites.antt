@@ -17,7 +17,7 @@ use Rattle.raid_message.specs.declared.letter.Pick.{Pick}
 use Rattle.raid_steps.specs.State.{Turn, SiteState}
 use Rattle.raid_steps.specs.Site as rows
 use Rattle.raid_steps.specs.World.{World, hear_at, link, pick, finds}
-use Rattle.raid_moves.specs.Moves.{Reached, next_of}
+use Rattle.raid_moves.specs.Moves.{Starts, Reached, next_of}
 use Rattle.raid_moves.specs.Moves as parts
 use Rattle.raid_moves.proofs.Steps.{on}
 use Rattle.raid_measure.specs.Measure.{homed_at, letter_cost, site_cost, servers_cost, measure}
@@ -62,8 +62,8 @@ module _ (w : Workload) (p : List Noted) (state : SiteState) (from : ℕ) (lette
   others other = rows_cost.step_costs w p state.site ready.known state from letter server sound (λ turn. Reached w state from letter turn) starts
       (λ after r. (after, (r, parts.done))) (λ turn after m a r. (r.0, (r.1.0, on w state from letter r.1.1 (parts.moves m parts.done))))
     where
-      starts : (turn : Turn SiteState) → Reached w state from letter turn → turn.state.site ≡ state.site → (turn.state.next == 0) ≡ false → (has_txn (txns w) (next_of turn) ≡ true) × (may_take_up w p state.site turn.state.running (next_of turn) ≡ true)
-      starts turn r place n = let may = ready.starts turn r n in (may.0, subst (λ z. may_take_up w p z turn.state.running (next_of turn) ≡ true) place may.1)
+      starts : Starts w state from letter → (turn : Turn SiteState) → Reached w state from letter turn → turn.state.site ≡ state.site → (turn.state.next == 0) ≡ false → (has_txn (txns w) (next_of turn) ≡ true) × (may_take_up w p state.site turn.state.running (next_of turn) ≡ true)
+      starts b turn r place n = let may = ready.starts b turn r n in (may.0, subst (λ z. may_take_up w p z turn.state.running (next_of turn) ≡ true) place may.1)
 
       sound : rows_cost.Sound w p state.site ready.known state from letter server
       sound = record {

@@ -114,10 +114,10 @@ module _ (w : Workload) (p : List Noted) (s : Site) (here : has_site (sites w) s
         let least = site_costs.loads_least w p s here 0 (ask_commits turn).state.running in
         let more = joined.0 in
         let fits : outs_cost w (ask_commits turn).outs + (start_cost w * idle w p s (ask_commits turn).state.running + sum_by (program_cost w) (ask_commits turn).state.running)
-                < cost + (start_cost w * idle w p s state.running + sum_by (program_cost w) state.running) = omega (arith, commits, most, least, more, pays) in
+        < cost + (start_cost w * idle w p s state.running + sum_by (program_cost w) state.running) = omega (arith, commits, most, least, more, pays) in
         subst (λ y. outs_cost w (ask_commits turn).outs + (start_cost w * idle w p y (ask_commits turn).state.running + sum_by (program_cost w) (ask_commits turn).state.running) < cost + site_cost w p state) (sym there)
         (subst (λ y. outs_cost w (ask_commits turn).outs + (start_cost w * idle w p s (ask_commits turn).state.running + sum_by (program_cost w) (ask_commits turn).state.running)
-                < cost + (start_cost w * idle w p y state.running + sum_by (program_cost w) state.running)) (sym place) fits)
+        < cost + (start_cost w * idle w p y state.running + sum_by (program_cost w) state.running)) (sym place) fits)
 
     pub up_note_falls : Falls (rows.hear_site w state from letter)
     up_note_falls = go state.up refl from

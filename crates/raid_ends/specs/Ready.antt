@@ -15,7 +15,7 @@ use Rattle.raid_message.specs.declared.letter.Message.TheVariants as letters
 use Rattle.raid_message.specs.declared.letter.Letter.{Letter}
 use Rattle.raid_steps.specs.State.{Turn, asking, Running, SiteState}
 use Rattle.raid_steps.specs.Programs.{running_of, runs_here, next_attempt}
-use Rattle.raid_moves.specs.Moves.{Ascend, Tells, comes_to, drops, next_of, Reached}
+use Rattle.raid_moves.specs.Moves.{Ascend, Tells, comes_to, drops, Starts, next_of, Reached}
 use Rattle.raid_measure.specs.Measure.{most_reads, is_idle_at}
 
 -- a value makes one answer more; where the program then reads on, it hasn't as many answers yet as a program may have
@@ -40,4 +40,4 @@ pub record Ready (w : Workload) (p : List Noted) (state : SiteState) (from : ℕ
   pub dropped : (t : Txn) (again : Bool) → Tells w state from letter (letters.Drop t again) → has_begun p t ≡ true
   -- whatever begins in the step may be taken up
   pub retries : (t : Txn) → Tells w state from letter (letters.Drop t true) → runs_here state t ≡ true → MayTakeUp w p (drops state t).state (next_attempt w t)
-  pub starts : (turn : Turn SiteState) → Reached w state from letter turn → (turn.state.next == 0) ≡ false → MayTakeUp w p turn.state (next_of turn)
+  pub starts : Starts w state from letter → (turn : Turn SiteState) → Reached w state from letter turn → (turn.state.next == 0) ≡ false → MayTakeUp w p turn.state (next_of turn)

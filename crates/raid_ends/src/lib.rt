@@ -4,15 +4,16 @@
 //! contract says it.
 #![tactic(auto)]
 
-ghost use Rattle.std.specs.Prelude.{◌≡◌, ◌<◌, ◌+◌, ℕ, true, List, ◌∷◌, Some, slice_get};
+ghost use Rattle.std.specs.Prelude.{◌≡◌, ◌<◌, ◌≤◌, ◌+◌, ℕ, true, List, ◌∷◌, length, Some, slice_get};
 ghost use Rattle.raid_base.specs.Sites.{site};
 ghost use Rattle.raid_workload.specs.declared.workload.Workload.{Workload};
 ghost use Rattle.raid_rules.specs.History.{noted};
 ghost use Rattle.raid_message.specs.declared.letter.Letter.{Letter};
 ghost use Rattle.raid_message.specs.declared.letter.Pick.{Pick};
 ghost use Rattle.raid_steps.specs.State.{SiteState};
-ghost use Rattle.raid_steps.specs.World.{World, link, pick, finds};
+ghost use Rattle.raid_steps.specs.World.{World, link, pick, run, finds, is_schedule, rounds};
 ghost use Rattle.raid_measure.specs.Measure.{measure};
+ghost use Rattle.raid_ends.specs.Hearing.{AreReady};
 ghost use Rattle.raid_ends.specs.Placing.{MayHear};
 ghost use Rattle.raid_ends.specs.Ready.{Ready};
 
@@ -32,4 +33,22 @@ pub fn picks_of_sites_lower_the_measure()
 #[tactic(auto, using(crate::proofs::Sequencer::sequencer_lowers))]
 pub fn picks_of_the_sequencer_lower_the_measure()
     ensures { (w : Workload) (state : World) (p : Pick) → p.server ≡ 1 → ((letter : Letter) (rest : List Letter) → link state.links p.server p.from ≡ letter ∷ rest → MayHear w state.servers.sequencer p.from letter) → finds state p ≡ true → measure w (pick w state p) < measure w state }
+{}
+
+/// Where each server may hear whatever letter it might take next, each pick that finds a letter lowers the measure.
+#[tactic(auto, using(crate::proofs::Runs::pick_falls))]
+pub fn picks_lower_the_measure()
+    ensures { (w : Workload) (state : World) (p : Pick) → AreReady w state → finds state p ≡ true → measure w (pick w state p) < measure w state }
+{}
+
+/// Where that is so in all that a workload's runs come to, each of its schedules is shorter than the number of picks that no run should come to.
+#[tactic(auto, using(crate::proofs::Runs::ends))]
+pub fn runs_end_where_all_are_ready()
+    ensures { (w : Workload) → ((earlier : List Pick) → AreReady w (run w earlier)) → (schedule : List Pick) → is_schedule w schedule ≡ true → length schedule < rounds w }
+{}
+
+/// Whatever steps were taken: no site runs more programs than may run at once.
+#[tactic(auto, using(crate::proofs::Together::run_few))]
+pub fn sites_run_no_more_than_may()
+    ensures { (w : Workload) (schedule : List Pick) (k : ℕ) (s : SiteState) → slice_get (run w schedule).servers.sites k ≡ Some s → length s.running ≤ w.together }
 {}
