@@ -1,3 +1,4 @@
+pub mod Asking
 pub mod Copies
 pub mod Histories
 pub mod Links

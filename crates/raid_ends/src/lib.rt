@@ -5,14 +5,19 @@
 #![tactic(auto)]
 
 ghost use Rattle.std.specs.Prelude.{◌≡◌, ◌<◌, ◌≤◌, ◌+◌, ℕ, true, List, ◌∷◌, length, Some, slice_get};
+ghost use Rattle.raid_base.specs.declared.names.Item.{Item};
+ghost use Rattle.raid_base.specs.declared.names.Txn.{Txn};
 ghost use Rattle.raid_base.specs.Sites.{site};
+ghost use Rattle.raid_program.specs.declared.program.Want.TheVariants.{Read};
+ghost use Rattle.raid_program.specs.Run.{Answers, outcome_of};
 ghost use Rattle.raid_workload.specs.declared.workload.Workload.{Workload};
+ghost use Rattle.raid_workload.specs.Parts.{program};
 ghost use Rattle.raid_rules.specs.History.{noted};
 ghost use Rattle.raid_message.specs.declared.letter.Letter.{Letter};
 ghost use Rattle.raid_message.specs.declared.letter.Pick.{Pick};
 ghost use Rattle.raid_steps.specs.State.{SiteState};
 ghost use Rattle.raid_steps.specs.World.{World, link, pick, run, finds, is_schedule, rounds};
-ghost use Rattle.raid_measure.specs.Measure.{measure};
+ghost use Rattle.raid_measure.specs.Measure.{most_reads, measure};
 ghost use Rattle.raid_ends.specs.Hearing.{AreReady};
 ghost use Rattle.raid_ends.specs.Placing.{MayHear};
 ghost use Rattle.raid_ends.specs.Ready.{Ready};
@@ -51,4 +56,10 @@ pub fn runs_end_where_all_are_ready()
 #[tactic(auto, using(crate::proofs::Together::run_few))]
 pub fn sites_run_no_more_than_may()
     ensures { (w : Workload) (schedule : List Pick) (k : ℕ) (s : SiteState) → slice_get (run w schedule).servers.sites k ≡ Some s → length s.running ≤ w.together }
+{}
+
+/// Whatever a program is answered: where it asks for an item, it has read fewer items than a program may.
+#[tactic(auto, using(crate::proofs::Asking::few_reads))]
+pub fn programs_that_ask_may_read_on()
+    ensures { (w : Workload) (t : Txn) (a : Answers) (x : Item) → (outcome_of (program w t) a).end ≡ Read x → length (outcome_of (program w t) a).reads + 1 ≤ most_reads }
 {}
