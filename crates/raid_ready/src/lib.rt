@@ -3,12 +3,17 @@
 //! `specs/Told` says how copies should be told. The functions do nothing: each is a law, and its contract says it.
 #![tactic(auto)]
 
-ghost use Rattle.std.specs.Prelude.{◌≡◌, ◌<◌, true, List};
+ghost use Rattle.std.specs.Prelude.{◌≡◌, ◌<◌, ℕ, ℤ, true, List, Option, Some, slice_get};
+ghost use Rattle.raid_base.specs.declared.names.Item.{Item};
+ghost use Rattle.raid_base.specs.declared.names.Site.{Site};
 ghost use Rattle.raid_workload.specs.declared.workload.Workload.{Workload};
 ghost use Rattle.raid_message.specs.declared.letter.Pick.{Pick};
+ghost use Rattle.raid_steps.specs.State.{asking, Running, SiteState};
+ghost use Rattle.raid_steps.specs.Programs.{running_of};
 ghost use Rattle.raid_steps.specs.World.{pick, run, finds};
 ghost use Rattle.raid_measure.specs.Measure.{measure};
 ghost use Rattle.raid_ends.specs.Placing.{EachMay};
+ghost use Rattle.raid_ends.specs.Ready.{Gives};
 ghost use Rattle.raid_ready.specs.Told.{CopiesAreTold};
 
 /// Whatever steps were taken: each entry of the history is one that pays for what it sends. A site goes down, or comes up, no more often than the
@@ -22,4 +27,9 @@ pub fn entries_pay_for_what_they_send()
 #[tactic(auto, using(crate::proofs::Sequencer::run_lowers))]
 pub fn picks_of_the_sequencer_lower_the_measure_in_runs()
     ensures { (w : Workload) (schedule : List Pick) → CopiesAreTold w (run w schedule) → (p : Pick) → p.server ≡ 1 → finds (run w schedule) p ≡ true → measure w (pick w (run w schedule) p) < measure w (run w schedule) }
+{}
+
+/// Whatever steps were taken: where a program that runs asks for an item, a value of it makes one answer more, and no more than a program may read.
+pub fn values_make_answers()
+    ensures { (w : Workload) (schedule : List Pick) (k : ℕ) (s : SiteState) → slice_get (run w schedule).servers.sites k ≡ Some s → (r : Running) (i : ℕ) (x : Item) (q : Option Site) (v : ℤ) → running_of s r.txn ≡ Some r → r.phase ≡ asking i x q → Gives w r x v }
 {}
