@@ -33,7 +33,7 @@ module _ (w : Workload) where
   abbrev all_events : Bool → ℕ
   all_events stop = count_by (λ (e : Event). if e.stop then stop else not stop) w.events
 
-  length_sites : length (sites w) ≡ w.sites
+  pub length_sites : length (sites w) ≡ w.sites
   length_sites = length-map (count_from 1 w.sites) site ∙ length_count 1 w.sites
 
   -- The letters: a Welcome for each site.

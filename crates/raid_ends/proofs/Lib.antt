@@ -1,0 +1,16 @@
+pub mod Asking
+pub mod Copies
+pub mod Histories
+pub mod Links
+pub mod Monitor
+pub mod Placing
+pub mod Programs
+pub mod Renewals
+pub mod Rows
+pub mod Runs
+pub mod Sent
+pub mod Sequencer
+pub mod Site
+pub mod Sites
+pub mod Together
+pub mod UpNotes

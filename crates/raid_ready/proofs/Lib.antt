@@ -1,0 +1,5 @@
+pub mod Due
+pub mod Entries
+pub mod Over
+pub mod Sequencer
+pub mod Values
