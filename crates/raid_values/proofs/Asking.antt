@@ -1,6 +1,6 @@
 -- A program that waits for an item after a step of its home, and for which nothing was asked in the step, waited for it before.
 use Rattle.std.proofs.Common.{◌≡◌, ◌⊎◌, inl, inr, ℕ, ℤ, ◌+◌, ◌==◌, arith, Bool, true, false, not, List, [], ◌∷◌, ◌++◌, map, filter, Option, Some, None, if◌then◌else◌, sym, subst, ap, ◌∙◌, refl, append-nil}
-use Rattle.std.proofs.lemmas.Bool.{eqb-true, true≢false}
+use Rattle.std.proofs.lemmas.Bool.{eqb-true}
 use Rattle.raid_base.specs.declared.names.Txn.{Txn}
 use Rattle.raid_base.specs.declared.names.Item.{Item}
 use Rattle.raid_base.specs.declared.names.Site.{Site}
@@ -24,7 +24,6 @@ use Rattle.raid_moves.specs.Moves as parts
 use Rattle.raid_moves.specs.Moves.{Ascend, comes_to, Goes, fresh, Row, Move}
 use Rattle.raid_moves.proofs.Places.{something, nothing, program_of, put_found, put_other}
 use Rattle.raid_moves.proofs.Steps.{step_keeps}
-use Rattle.raid_layers.specs.Asks.{ask_of}
 use Rattle.raid_layers.proofs.Turns.{asked_by, asked_append, filtered_out, filtered_other}
 
 empty_first : {X : Type 0} (xs ys : List X) → xs ++ ys ≡ [] → xs ≡ []

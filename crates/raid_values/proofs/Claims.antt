@@ -1,5 +1,5 @@
 -- What is on its way to answer an ask: which letters do, and what is known of them.
-use Rattle.std.proofs.Common.{◌≡◌, ℕ, zero, suc, ◌+◌, ◌<◌, ◌==◌, Bool, true, false, ◌&&◌, List, [], ◌∷◌, Option, Some, arith, sym, subst, ap, ◌∙◌, refl}
+use Rattle.std.proofs.Common.{◌≡◌, ℕ, zero, suc, ◌+◌, ◌<◌, ◌==◌, true, ◌&&◌, List, [], ◌∷◌, Option, arith, sym, subst, ap, ◌∙◌, refl}
 use Rattle.std.specs.Prelude.{⊤}
 use Rattle.std.specs.List.{AllByRecursion}
 use Rattle.std.proofs.lemmas.Bool.{and_parts, and_from, eqb-true, true≢false}
@@ -15,10 +15,10 @@ use Rattle.raid_message.specs.declared.letter.Letter.{Letter}
 use Rattle.raid_steps.specs.State.{SiteState}
 use Rattle.raid_steps.specs.World.{link}
 use Rattle.raid_sessions.proofs.Lists.{all_weaken, is_same}
-use Rattle.raid_layers.specs.Asks.{Token, reading, bringing, serving, Claim, OfSequencer, OfSite, HoldsOf, AllTokens, IsBelow, IsOfRead, Outstanding, asked, dropped, read}
+use Rattle.raid_layers.specs.Asks.{Token, reading, bringing, serving, Claim, OfSequencer, OfSite, AllTokens, IsBelow, IsOfRead, Outstanding, asked, dropped, read}
 use Rattle.raid_layers.proofs.Tokens.{OnLinks, TokenAt, all_weaker}
 use Rattle.raid_versions.specs.Versions.{Along, after_letter}
-use Rattle.raid_values.specs.Gets.{Ask, reads_for, ReadsSeen, brings_for, BringsSeen, IsAnsweredBySeen}
+use Rattle.raid_values.specs.Gets.{Ask, reads_for, ReadsSeen, BringsSeen, IsAnsweredBySeen}
 
 -- tokens are of other asks; and those of the ask are of its item
 abbrev pub IsNot : ℕ → Claim

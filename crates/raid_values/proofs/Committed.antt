@@ -1,12 +1,11 @@
 -- Each step keeps the value of each copy, and of each copy on its way, the one that the Commit with its version gave.
-use Rattle.std.proofs.Common.{◌≡◌, ◌≢◌, ◌⊎◌, inl, inr, ℕ, ℤ, zero, suc, ◌+◌, ◌-◌, ◌<◌, ◌≤◌, ◌==◌, Bool, true, false, List, [], ◌∷◌, ◌++◌, length, map, find, Option, Some, None, if◌then◌else◌, arith, sym, subst, ap, ◌∙◌, refl}
+use Rattle.std.proofs.Common.{◌≡◌, ◌≢◌, ◌⊎◌, inl, inr, ℕ, ℤ, zero, suc, ◌+◌, ◌-◌, ◌≤◌, Bool, true, false, List, [], ◌∷◌, length, map, Option, Some, None, if◌then◌else◌, arith, sym, subst, ap, ◌∙◌, refl}
 use Rattle.std.specs.Prelude.{⊤, slice_get, slice_set}
 use Rattle.std.specs.Option.{option_map_or}
 use Rattle.std.specs.List.{AllByRecursion}
 use Rattle.raid_base.specs.declared.names.Txn.{Txn}
 use Rattle.raid_base.specs.declared.names.Item.{Item}
 use Rattle.raid_base.specs.declared.entry.Noted.{Noted}
-use Rattle.raid_base.specs.declared.entry.Entry.{Entry}
 use Rattle.raid_base.specs.declared.entry.Entry.TheVariants.{Read, Wait}
 use Rattle.raid_base.specs.Find.{first_of}
 use Rattle.raid_base.specs.Names.{is_item}
@@ -17,14 +16,14 @@ use Rattle.raid_message.specs.declared.letter.Message.{Message}
 use Rattle.raid_message.specs.declared.letter.Message.TheVariants as letters
 use Rattle.raid_message.specs.declared.letter.Letter.{Letter}
 use Rattle.raid_steps.specs.State.{Out, Turn, Sequencer, opened, Copy, SiteState}
-use Rattle.raid_steps.specs.Copies.{copy_of, renewed, set_copy, staged_of}
+use Rattle.raid_steps.specs.Copies.{copy_of, renewed, staged_of}
 use Rattle.raid_steps.specs.Sequencer.{so_far, place, hear_sequencer}
 use Rattle.raid_steps.specs.Site.{hear_site}
 use Rattle.raid_steps.specs.World.{World, link}
 use Rattle.raid_sessions.proofs.Lists.{all_weaken, get_below, get_set, get_other, some_is}
 use Rattle.raid_sessions.proofs.Mail.{same_or_not, moved}
 use Rattle.raid_moves.specs.Moves.{Tells, Says}
-use Rattle.raid_moves.proofs.Places.{all_found, nothing as none_there}
+use Rattle.raid_moves.proofs.Places.{all_found}
 use Rattle.raid_letters.specs.Says.{NoteSays, was_applied}
 use Rattle.raid_letters.proofs.Runs.{LetterSays, QueueSays}
 use Rattle.raid_layers.proofs.Opening.{First, reads, waits, nothing, Chain, done, places, sends, Opens, hear_opens}
@@ -33,22 +32,15 @@ use Rattle.raid_staged.specs.Agree.{PartsAgree}
 use Rattle.raid_staged.proofs.Worlds.{Landed}
 use Rattle.raid_values.specs.Values.{committed_value}
 use Rattle.raid_values.proofs.Pushes.{GoesOn, goes_same, goes_further, goes_more}
-use Rattle.raid_values.proofs.Rows.{Renews, left, applies, brings, step_renews, Sent, AreSent, step_sent}
-use Rattle.raid_values.proofs.Written.{same_item, Applied, applied_here}
+use Rattle.raid_versions.proofs.SiteCopies.{same_item, found_item, set_in}
+use Rattle.raid_versions.proofs.SiteParts.{Copied, keeps, applies, renews, step_copies}
+use Rattle.raid_values.proofs.Rows.{Sent, step_sent}
+use Rattle.raid_values.proofs.Written.{Applied, applied_here}
 
 -- what holds of mapped elements
 pub all_mapped : {X Y : Type 0} (P : X → Type 0) (Q : Y → Type 0) (f : X → Y) (xs : List X) → ((x : X) → P x → Q (f x)) → AllByRecursion P xs → AllByRecursion Q (map f xs)
 all_mapped P Q f [] each a = tt
 all_mapped P Q f (x ∷ xs) each a = (each x a.0, all_mapped P Q f xs each a.1)
-
--- the copy that is found of an item is of it
-pub found_item : (x : Item) (cs : List Copy) (c : Copy) → find (λ (c : Copy). is_item x c.item) cs ≡ Some c → c.item ≡ x
-found_item x [] c q = absurd (none_there q)
-found_item x (d ∷ cs) c q = go (is_item x d.item) refl q (found_item x cs c)
-  where
-    go : (b : Bool) → is_item x d.item ≡ b → (if b then Some d else find (λ (c : Copy). is_item x c.item) cs) ≡ Some c → (find (λ (c : Copy). is_item x c.item) cs ≡ Some c → c.item ≡ x) → c.item ≡ x
-    go true same q rest = ap (λ (z : Copy). z.item) (sym (some_is d c q)) ∙ same_item x d.item same
-    go false other q rest = rest q
 
 module _ (w : Workload) where
   -- the sequencer's steps go on from the history that there was
@@ -165,13 +157,13 @@ module _ (w : Workload) where
           go true q = subst (λ z. IsOf p z v version) (sym (same_item x c.item q)) new
           go false q = h
 
-      copies_after : {cs : List Copy} → Renews w own from letter cs → AllByRecursion (CopyOf p) cs
-      copies_after (left none) = all.copies j own at
-      copies_after (applies t number ps m has) = all_mapped (CopyOf p) (CopyOf p) (renewed number ps) own.copies (renewed_of number ps (told_part t number ps m has)) (all.copies j own at)
-      copies_after (brings k x v version c m found most) = all_mapped (CopyOf p) (CopyOf p) _ own.copies (set_of x v version (brought k x v version m)) (all.copies j own at)
+      copies_after : Copied w own from letter turn → AllByRecursion (CopyOf p) turn.state.copies
+      copies_after (keeps same passes sent) = subst (AllByRecursion (CopyOf p)) (sym same) (all.copies j own at)
+      copies_after (applies t number ps m has same sent) = subst (AllByRecursion (CopyOf p)) (sym same) (all_mapped (CopyOf p) (CopyOf p) (renewed number ps) own.copies (renewed_of number ps (told_part t number ps m has)) (all.copies j own at))
+      copies_after (renews k x v version c m found most same sent) = subst (AllByRecursion (CopyOf p)) (sym same) (all_mapped (CopyOf p) (CopyOf p) (set_in x v version) own.copies (set_of x v version (brought k x v version m)) (all.copies j own at))
 
       pub own_copy : (x : Item) (c : Copy) → copy_of own x ≡ Some c → CopyOf p c × (c.item ≡ x)
-      own_copy x c q = (all_found (CopyOf p) (λ (c : Copy). is_item x c.item) own.copies c (all.copies j own at) q, found_item x own.copies c q)
+      own_copy x c q = (all_found (CopyOf p) (λ (c : Copy). is_item x c.item) own.copies c (all.copies j own at) q, found_item own x c q)
 
       sent_of : (server to : ℕ) (m : Message) → Sent w own from letter server to m → MessageOf p m
       sent_of server to (letters.CopyValue x v version) h =
@@ -190,5 +182,5 @@ module _ (w : Workload) where
           copies : (k : ℕ) (s : SiteState) → slice_get (slice_set state.servers.sites j (hear_site w own from letter).state) k ≡ Some s → (k ≡ j) ⊎ (k ≢ j) → AllByRecursion (CopyOf p) s.copies
           copies k s there (inl e) =
               let is : turn.state ≡ s = some_is turn.state s (sym (get_set state.servers.sites j turn.state (get_below state.servers.sites j own at)) ∙ ap (slice_get (slice_set state.servers.sites j turn.state)) (sym e) ∙ there) in
-              subst (λ (z : SiteState). AllByRecursion (CopyOf p) z.copies) is (copies_after (step_renews w own from letter (landed.says.homes j own at).ascend))
+              subst (λ (z : SiteState). AllByRecursion (CopyOf p) z.copies) is (copies_after (step_copies w own from letter (landed.says.homes j own at).ascend))
           copies k s there (inr differ) = all.copies k s (sym (get_other state.servers.sites j k turn.state differ) ∙ there)

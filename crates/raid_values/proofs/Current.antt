@@ -1,15 +1,14 @@
 -- In every run, the unlocked copies of live sites have the last values, or get them by the Applies on their way.
-use Rattle.std.proofs.Common.{◌≡◌, ℕ, ℤ, suc, ◌+◌, ◌-◌, ◌==◌, Bool, true, false, ◌||◌, List, [], ◌∷◌, fold, find, Option, Some, None, if◌then◌else◌, arith, sym, subst, ap, ◌∙◌, refl}
-use Rattle.std.specs.Prelude.{⊤, slice_get, option_map}
+use Rattle.std.proofs.Common.{◌≡◌, ℕ, ℤ, ◌+◌, ◌-◌, ◌==◌, Bool, true, false, ◌||◌, List, [], ◌∷◌, find, Option, Some, None, if◌then◌else◌, arith, sym, subst, ap, ◌∙◌, refl}
+use Rattle.std.specs.Prelude.{⊤, option_map}
 use Rattle.std.specs.Option.{option_map_or}
 use Rattle.std.specs.List.{AllByRecursion, list_any}
 use Rattle.std.proofs.lemmas.Bool.{true≢false}
 use Rattle.raid_base.specs.declared.names.Txn.{Txn}
 use Rattle.raid_base.specs.declared.names.Item.{Item}
-use Rattle.raid_base.specs.declared.names.Site.{Site}
 use Rattle.raid_base.specs.declared.entry.Noted.{Noted}
 use Rattle.raid_base.specs.Find.{first_of}
-use Rattle.raid_base.specs.Names.{is_txn, is_item}
+use Rattle.raid_base.specs.Names.{is_txn}
 use Rattle.raid_base.specs.Sites.{site}
 use Rattle.raid_workload.specs.declared.workload.Workload.{Workload}
 use Rattle.raid_rules.specs.History.{noted, version}
@@ -22,7 +21,7 @@ use Rattle.raid_message.specs.declared.letter.Pick.{Pick}
 use Rattle.raid_steps.specs.State.{Copy, SiteState}
 use Rattle.raid_steps.specs.Copies.{copy_of, staged_of, renewed}
 use Rattle.raid_steps.specs.World.{World, link, run}
-use Rattle.raid_moves.proofs.Places.{all_both, all_found}
+use Rattle.raid_moves.proofs.Places.{all_both}
 use Rattle.raid_letters.specs.Says.{NoteSays, is_held, was_applied}
 use Rattle.raid_letters.proofs.Runs.{LetterSays, WorldSays}
 use Rattle.raid_staged.specs.Agree.{PartsAgree}

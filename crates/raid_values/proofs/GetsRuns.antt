@@ -1,11 +1,10 @@
 -- In every run, what is on its way to answer an ask is the value that the transaction has seen.
-use Rattle.std.proofs.Common.{◌≡◌, ℕ, zero, suc, ◌+◌, true, false, List, [], ◌∷◌, ◌++◌, Option, Some, None, arith, sym, subst, ap, refl, append-nil, append_assoc}
+use Rattle.std.proofs.Common.{◌≡◌, ℕ, zero, suc, ◌+◌, true, false, List, [], ◌∷◌, ◌++◌, Option, Some, None, arith, sym, subst, ap, ◌∙◌, refl, append-nil, append_assoc}
 use Rattle.std.specs.Prelude.{max, slice_get, slice_set, slice_index}
 use Rattle.std.specs.Option.{option_map_or}
 use Rattle.std.proofs.lemmas.List.Sums.{fold-append}
 use Rattle.raid_base.specs.declared.names.Item.{Item}
 use Rattle.raid_base.specs.declared.names.Site.{Site}
-use Rattle.raid_base.specs.Names.{is_item}
 use Rattle.raid_base.specs.Sites.{site}
 use Rattle.raid_workload.specs.declared.workload.Workload.{Workload}
 use Rattle.raid_rules.specs.History.{noted, has_ended}
@@ -21,7 +20,7 @@ use Rattle.raid_placed.specs.Placed.{Placed}
 use Rattle.raid_sessions.proofs.Lists.{get_below, get_set}
 use Rattle.raid_sessions.proofs.Mail.{moved}
 use Rattle.raid_sessions.proofs.Reached.{server_below, reached}
-use Rattle.raid_moves.proofs.Places.{all_found, nothing}
+use Rattle.raid_moves.proofs.Places.{nothing}
 use Rattle.raid_asks.proofs.Reached.{first_state}
 use Rattle.raid_letters.specs.Says.{is_held}
 use Rattle.raid_layers.specs.Asks.{AskOneThing}
@@ -34,12 +33,13 @@ use Rattle.raid_staged.proofs.PartRuns.{runs_agree}
 use Rattle.raid_staged.proofs.Runs.{landed, runs_stage}
 use Rattle.raid_staged.proofs.Worlds.{Landed}
 use Rattle.raid_versions.specs.Versions.{IsLive, HaveLastVersions}
+use Rattle.raid_versions.proofs.Held.{runs_hold}
 use Rattle.raid_versions.proofs.Runs.{runs_last}
+use Rattle.raid_versions.proofs.SiteCopies.{found_held}
 use Rattle.raid_values.specs.Gets.{IsAnsweredBySeen, GetWhatTheySaw, ProgramsGetWhatTheySaw}
-use Rattle.raid_values.proofs.Committed.{AllOf, found_item}
+use Rattle.raid_values.proofs.Committed.{AllOf}
 use Rattle.raid_values.proofs.GetsSites.{site_gets}
 use Rattle.raid_values.proofs.GetsWorlds.{monitor_gets, sequencer_gets}
-use Rattle.raid_values.proofs.Items.{copies_held, runs_items}
 use Rattle.raid_values.proofs.Runs.{runs_of}
 
 module _ (w : Workload) where
@@ -102,8 +102,7 @@ module _ (w : Workload) where
     agree = runs_agree w schedule;
     staged = runs_stage w schedule;
     copies = runs_of w schedule;
-    holds = λ k s at x c has. subst (λ z. is_held w (site (k + 1)) z ≡ true) (found_item x s.copies c has)
-        (all_found (λ (c : Copy). is_held w (site (k + 1)) c.item ≡ true) (λ (c : Copy). is_item x c.item) s.copies c (copies_held w k s.copies (runs_items w schedule k s at)) has);
+    holds = λ k s at x c has. sym (runs_hold w schedule k s at x) ∙ found_held s x c has;
     versions = runs_last w schedule;
     talk = asks_one w schedule;
   }

@@ -1,15 +1,15 @@
 -- Each step of a site keeps what is on its way to answer an ask the value that the transaction has seen.
-use Rattle.std.proofs.Common.{◌≡◌, ◌≢◌, ◌⊎◌, inl, inr, ℕ, ℤ, zero, suc, ◌+◌, ◌-◌, ◌<◌, ◌≤◌, ◌==◌, nat_le, Bool, true, false, ◌&&◌, ◌||◌, List, [], ◌∷◌, ◌++◌, map, find, Option, Some, None, if◌then◌else◌, arith, sym, subst, ap, ◌∙◌, refl}
-use Rattle.std.specs.Prelude.{⊤, slice_get, slice_set}
+use Rattle.std.proofs.Common.{◌≡◌, ◌≢◌, ◌⊎◌, inl, inr, ℕ, ℤ, zero, suc, ◌+◌, ◌-◌, ◌<◌, ◌≤◌, ◌==◌, nat_le, Bool, true, false, ◌&&◌, List, [], ◌∷◌, ◌++◌, find, Option, Some, None, if◌then◌else◌, arith, sym, subst, ap, ◌∙◌, refl}
+use Rattle.std.specs.Prelude.{slice_get, slice_set}
 use Rattle.std.specs.Option.{option_map_or}
-use Rattle.std.specs.List.{AllByRecursion, list_any}
-use Rattle.std.proofs.lemmas.Bool.{and_parts, and_from, eqb-true, true≢false}
+use Rattle.std.specs.List.{AllByRecursion}
+use Rattle.std.proofs.lemmas.Bool.{and_from, eqb-true, true≢false}
 use Rattle.raid_base.specs.declared.names.Txn.{Txn}
 use Rattle.raid_base.specs.declared.names.Item.{Item}
 use Rattle.raid_base.specs.declared.names.Site.{Site}
 use Rattle.raid_base.specs.declared.entry.Noted.{Noted}
 use Rattle.raid_base.specs.Find.{first_of}
-use Rattle.raid_base.specs.Names.{is_txn, is_item}
+use Rattle.raid_base.specs.Names.{is_item}
 use Rattle.raid_base.specs.Sites.{site}
 use Rattle.raid_workload.specs.declared.workload.Workload.{Workload}
 use Rattle.raid_rules.specs.History.{noted, has_ended}
@@ -18,9 +18,9 @@ use Rattle.raid_legal.specs.Seen.{seen}
 use Rattle.raid_message.specs.declared.letter.Message.{Message}
 use Rattle.raid_message.specs.declared.letter.Message.TheVariants as letters
 use Rattle.raid_message.specs.declared.letter.Letter.{Letter}
-use Rattle.raid_steps.specs.State.{Out, Turn, Phase, asking, Copy, Running, SiteState}
-use Rattle.raid_steps.specs.Copies.{copy_of, renewed, set_copy, staged_of}
-use Rattle.raid_steps.specs.Fits.{is_of_sequencer, knows_txn}
+use Rattle.raid_steps.specs.State.{Out, Turn, asking, Copy, Running, SiteState}
+use Rattle.raid_steps.specs.Copies.{copy_of, renewed, staged_of}
+use Rattle.raid_steps.specs.Fits.{knows_txn}
 use Rattle.raid_steps.specs.Programs.{running_of}
 use Rattle.raid_steps.specs.Site.{fits_here, hear_site}
 use Rattle.raid_steps.specs.World.{World, link}
@@ -30,48 +30,36 @@ use Rattle.raid_sessions.proofs.Lists.{all_weaken, get_below, get_set, get_other
 use Rattle.raid_sessions.proofs.Mail.{same_or_not, letters_to, moved, moved_sent, moved_taken, moved_other}
 use Rattle.raid_sessions.proofs.Reached.{server_below, from_below}
 use Rattle.raid_moves.specs.Moves.{Hears, Tells, Says}
-use Rattle.raid_moves.proofs.Places.{found_txn, nothing, something}
+use Rattle.raid_moves.proofs.Places.{found_txn, something}
 use Rattle.raid_asks.proofs.Facts.{or_right}
 use Rattle.raid_letters.specs.Says.{NoteSays, is_held, was_applied}
 use Rattle.raid_letters.proofs.Runs.{LetterSays, QueueSays}
 use Rattle.raid_layers.specs.Asks.{asks_of, OfSequencer, HoldsOf, AllTokens, IsBelow, Outstanding, asked, dropped, read, IsAbout, Talks, AskOneThing}
 use Rattle.raid_layers.proofs.SiteWorlds.{HomeStep, same, falls, rises, hears, home_step}
-use Rattle.raid_layers.proofs.Tokens.{OnLinks, TokenAt, step_all, all_weaker, asks_append}
+use Rattle.raid_layers.proofs.Tokens.{TokenAt, step_all, all_weaker, asks_append}
 use Rattle.raid_layers.proofs.Turns.{asked_by, asked_sent}
 use Rattle.raid_layers.proofs.Worlds.{TalksAt}
 use Rattle.raid_staged.specs.Agree.{PartsAgree}
-use Rattle.raid_staged.specs.Staged.{is_staged, ApplyStaged, StagedFirst}
+use Rattle.raid_staged.specs.Staged.{ApplyStaged, StagedFirst}
 use Rattle.raid_staged.proofs.Ends.{applied_committed}
 use Rattle.raid_staged.proofs.Worlds.{Landed}
 use Rattle.raid_versions.specs.Versions.{was_written, IsVersion, IsLive, LastVersions, Along, after_message, after_letter, AreAbove, NoGap, ReadsWhole, reads_copy, is_pending, applies as is_apply, Brings}
+use Rattle.raid_versions.proofs.SiteCopies.{same_item, found_item, found_mapped, renewed_item, set_in, set_item}
 use Rattle.raid_versions.proofs.SiteFacts.{committed_known}
+use Rattle.raid_versions.proofs.SiteParts.{Passes, Copied, keeps, applies, renews, step_copies}
 use Rattle.raid_versions.proofs.SiteLetters.{Effect, leaves, sets, effect, above_rest}
-use Rattle.raid_values.specs.Gets.{Ask, reads_for, ReadsSeen, brings_for, BringsSeen, IsAnsweredBySeen, GetWhatTheySaw}
+use Rattle.raid_values.specs.Gets.{Ask, reads_for, ReadsSeen, BringsSeen, IsAnsweredBySeen, GetWhatTheySaw}
 use Rattle.raid_values.specs.Values.{committed_value}
 use Rattle.raid_values.proofs.Asking.{Waited, step_knows}
 use Rattle.raid_values.proofs.Claims.{IsNot, IsOfItem, below_not, of_item, IsReadFor, IsBroughtFor, read_parts, read_whole, brought_parts, Brought, brought_links, links_brought, none_answers}
-use Rattle.raid_values.proofs.Committed.{AllOf, CopyOf, found_item, own_copy, told_part, told_applied}
-use Rattle.raid_values.proofs.GetsWorlds.{home_live, outstanding}
-use Rattle.raid_values.proofs.Items.{renewed_item, set_one, set_item}
-use Rattle.raid_values.proofs.Rows.{Renews, left, applies, brings, NoApply, step_renews, Sent, SendsValue, step_sent}
-use Rattle.raid_values.proofs.Written.{same_item, Applied}
+use Rattle.raid_values.proofs.Committed.{AllOf, CopyOf, own_copy, told_part}
+use Rattle.raid_values.proofs.GetsWorlds.{outstanding}
+use Rattle.raid_values.proofs.Rows.{Sent, step_sent}
+use Rattle.raid_values.proofs.Written.{Applied}
 
 empty_last : {X : Type 0} (xs ys : List X) → xs ++ ys ≡ [] → ys ≡ []
 empty_last [] ys q = q
 empty_last (x ∷ xs) ys q = absurd (cc q)
-
--- the copy found of an item, where each copy was changed to one of the same item
-found_mapped : (x : Item) (f : Copy → Copy) → ((c : Copy) → (f c).item ≡ c.item) → (cs : List Copy) (c : Copy) → find (λ (c : Copy). is_item x c.item) (map f cs) ≡ Some c → (d : Copy) × ((find (λ (c : Copy). is_item x c.item) cs ≡ Some d) × (f d ≡ c))
-found_mapped x f keeps [] c q = absurd (nothing q)
-found_mapped x f keeps (d ∷ cs) c q = go (is_item x d.item) refl (sym (ap (λ i. if is_item x i then Some (f d) else find (λ (c : Copy). is_item x c.item) (map f cs)) (keeps d)) ∙ q) (found_mapped x f keeps cs c)
-  where
-    go : (b : Bool) → is_item x d.item ≡ b → (if is_item x d.item then Some (f d) else find (λ (c : Copy). is_item x c.item) (map f cs)) ≡ Some c →
-        (find (λ (c : Copy). is_item x c.item) (map f cs) ≡ Some c → (e : Copy) × ((find (λ (c : Copy). is_item x c.item) cs ≡ Some e) × (f e ≡ c))) →
-        (e : Copy) × ((find (λ (c : Copy). is_item x c.item) (d ∷ cs) ≡ Some e) × (f e ≡ c))
-    go true is q rest = (d, (ap (λ b. if b then Some d else find (λ (c : Copy). is_item x c.item) cs) is, something (sym (ap (λ b. if b then Some (f d) else find (λ (c : Copy). is_item x c.item) (map f cs)) is) ∙ q)))
-    go false is q rest =
-        let more = rest (sym (ap (λ b. if b then Some (f d) else find (λ (c : Copy). is_item x c.item) (map f cs)) is) ∙ q) in
-        (more.0, (ap (λ b. if b then Some d else find (λ (c : Copy). is_item x c.item) cs) is ∙ more.1.0, more.1.1))
 
 -- a copy that comes to have a later version: where it is read behind this, that version was applied before
 along_brought : (w : Workload) (p : List Noted) (a : Ask) (m u v : ℕ) (ls : List Letter) → u < v → was_written p a.item v ≡ true → AreAbove p a.item m v ls → Along (ReadsWhole p a.item m) p a.item m u ls →
@@ -190,7 +178,7 @@ module _ (w : Workload) (state : World) (landed : Landed w state) (agree : Parts
       before c has = old.read j own c live has
 
       -- nothing is applied
-      unchanged : NoApply w own from letter → (c : Copy) → copy_of own a.item ≡ Some c → Wanted c
+      unchanged : Passes w own from letter → (c : Copy) → copy_of own a.item ≡ Some c → Wanted c
       unchanged none c has = go (same_or_not from 1)
         where
           still : (b : Bool) → (letter.to == m) ≡ b → (message : Message) → letter.message ≡ message → from ≡ 1 → (if b then after_message p a.item c.version message else c.version) ≡ c.version
@@ -214,7 +202,7 @@ module _ (w : Workload) (state : World) (landed : Landed w state) (agree : Parts
           part = told_part w state landed agree copies from clock letter rest j own at front t number ps told has
 
           item_is : c.item ≡ a.item
-          item_is = found_item a.item own.copies c found
+          item_is = found_item own a.item c found
 
           go : (o : Option ℤ) → first_of c.item ps ≡ o → (if was_written p a.item number then number else c.version) ≡ (option_map_or (λ v. let d : Copy = record { item = c.item; value = v; version = number } in d) o c).version
           go None q = ap (λ b. if b then number else c.version) (part.none a.item (holds j own at a.item c found) (ap (λ i. first_of i ps) (sym item_is) ∙ q))
@@ -224,11 +212,11 @@ module _ (w : Workload) (state : World) (landed : Landed w state) (agree : Parts
           version_is = ap (λ b. if b then after_message p a.item c.version letter.message else c.version) told.heard.meant ∙ ap (after_message p a.item c.version) told.is ∙ go (first_of c.item ps) refl
 
       -- a copy comes from another site
-      set_so : (i : ℕ) (y : Item) (v : ℤ) (version : ℕ) (b : Copy) → Says w own from letter i (letters.CopyValue y v version) → copy_of own y ≡ Some b → nat_le b.version version ≡ true → (c : Copy) → copy_of own a.item ≡ Some c → Wanted (set_one y v version c)
-      set_so i y v version b told found most c has = subst (Along (ReadsSeen w p a) p a.item m (set_one y v version c).version) (sym (not_taken (λ one. (let by = told.by in omega (arith, one, by))))) (go (is_item y c.item) refl)
+      set_so : (i : ℕ) (y : Item) (v : ℤ) (version : ℕ) (b : Copy) → Says w own from letter i (letters.CopyValue y v version) → copy_of own y ≡ Some b → nat_le b.version version ≡ true → (c : Copy) → copy_of own a.item ≡ Some c → Wanted (set_in y v version c)
+      set_so i y v version b told found most c has = subst (Along (ReadsSeen w p a) p a.item m (set_in y v version c).version) (sym (not_taken (λ one. (let by = told.by in omega (arith, one, by))))) (go (is_item y c.item) refl)
         where
           item_is : c.item ≡ a.item
-          item_is = found_item a.item own.copies c has
+          item_is = found_item own a.item c has
 
           -- its version is one, and what is pending is above it
           brought : Brings p sites state.links j letter.to (letters.CopyValue y v version)
@@ -269,15 +257,18 @@ module _ (w : Workload) (state : World) (landed : Landed w state) (agree : Parts
     own_after : IsLive p changed j turn.state → (c : Copy) → copy_of turn.state a.item ≡ Some c → Along (ReadsSeen w p a) p a.item turn.state.session c.version (link after (j + 2) 1)
     own_after live c has =
         let was = was_live live in
-        subst (λ n. Along (ReadsSeen w p a) p a.item n c.version (link after (j + 2) 1)) (sym was.1) (go was.0 (step_renews w own from letter (landed.says.homes j own at).ascend) has)
+        subst (λ n. Along (ReadsSeen w p a) p a.item n c.version (link after (j + 2) 1)) (sym was.1) (go was.0 (step_copies w own from letter (landed.says.homes j own at).ascend))
       where
-        go : IsLive p sites j own → {cs : List Copy} → Renews w own from letter cs → find (λ (c : Copy). is_item a.item c.item) cs ≡ Some c → Along (ReadsSeen w p a) p a.item m c.version (link after (j + 2) 1)
-        go live_before (left none) found = unchanged live_before none c found
-        go live_before (applies t number ps told staged_so) found =
-            let d = found_mapped a.item (renewed number ps) (renewed_item number ps) own.copies c found in
+        found : {cs : List Copy} → turn.state.copies ≡ cs → find (λ (c : Copy). is_item a.item c.item) cs ≡ Some c
+        found is = sym (ap (find (λ (c : Copy). is_item a.item c.item)) is) ∙ has
+
+        go : IsLive p sites j own → Copied w own from letter turn → Along (ReadsSeen w p a) p a.item m c.version (link after (j + 2) 1)
+        go live_before (keeps is passes sent) = unchanged live_before passes c (found is)
+        go live_before (applies t number ps told staged_so is sent) =
+            let d = found_mapped (renewed number ps) (renewed_item number ps) a.item own.copies c (found is) in
             subst (λ (z : Copy). Along (ReadsSeen w p a) p a.item m z.version (link after (j + 2) 1)) d.1.1 (renewed_so live_before t number ps told staged_so d.0 d.1.0)
-        go live_before (brings i y v version b told copy most) found =
-            let d = found_mapped a.item (set_one y v version) (set_item y v version) own.copies c found in
+        go live_before (renews i y v version b told copy most is sent) =
+            let d = found_mapped (set_in y v version) (set_item y v version) a.item own.copies c (found is) in
             subst (λ (z : Copy). Along (ReadsSeen w p a) p a.item m z.version (link after (j + 2) 1)) d.1.1 (set_so live_before i y v version b told copy most d.0 d.1.0)
 
     -- a value that is sent is that of the copy that the site was to read

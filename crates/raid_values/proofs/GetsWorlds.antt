@@ -1,8 +1,8 @@
 -- Each step of the monitor and of the sequencer keeps what is on its way to answer an ask the value that the transaction has seen.
-use Rattle.std.proofs.Common.{◌≡◌, ◌≢◌, ◌⊎◌, inl, inr, ℕ, ℤ, zero, suc, ◌+◌, ◌-◌, ◌<◌, ◌≤◌, ◌==◌, nat_lt, Bool, true, false, not, ◌&&◌, List, [], ◌∷◌, ◌++◌, length, Option, Some, None, if◌then◌else◌, arith, sym, subst, ap, ◌∙◌, refl}
+use Rattle.std.proofs.Common.{◌≡◌, ◌≢◌, ◌⊎◌, inl, inr, ℕ, suc, ◌+◌, ◌-◌, ◌<◌, ◌≤◌, ◌==◌, nat_lt, Bool, true, false, ◌&&◌, List, [], ◌∷◌, ◌++◌, Option, Some, if◌then◌else◌, arith, sym, subst, ap, ◌∙◌, refl}
 use Rattle.std.specs.Prelude.{⊤, slice_get}
 use Rattle.std.specs.List.{AllByRecursion, list_any}
-use Rattle.std.proofs.lemmas.Bool.{and_parts, and_from, eqb-true, true≢false}
+use Rattle.std.proofs.lemmas.Bool.{and_from, eqb-true, true≢false}
 use Rattle.raid_base.specs.declared.names.Txn.{Txn}
 use Rattle.raid_base.specs.declared.names.Item.{Item}
 use Rattle.raid_base.specs.declared.names.Site.{Site}
@@ -10,32 +10,23 @@ use Rattle.raid_base.specs.declared.entry.Entry.{Entry}
 use Rattle.raid_base.specs.declared.entry.Entry.TheVariants.{Read, Wait}
 use Rattle.raid_base.specs.declared.entry.Noted.{Noted}
 use Rattle.raid_base.specs.Names.{is_txn, is_item, is_site, has_site}
-use Rattle.raid_base.specs.Sites.{session, site, all_sites}
+use Rattle.raid_base.specs.Sites.{session, site}
 use Rattle.raid_workload.specs.declared.workload.Workload.{Workload}
-use Rattle.raid_workload.specs.Parts.{home, placement}
+use Rattle.raid_workload.specs.Parts.{home}
 use Rattle.raid_rules.specs.Entries.{is_end_of, reads_item}
-use Rattle.raid_rules.specs.History.{noted, add, next, stamp, has_ended, version}
-use Rattle.raid_rules.specs.Sessions.{last_session, is_copy_locked, is_site_up, source_for}
-use Rattle.raid_rules.specs.Verdicts.{reading}
-use Rattle.raid_base.specs.declared.verdict.Verdict.{Verdict}
-use Rattle.raid_base.specs.declared.verdict.Verdict.TheVariants as verdicts
-use Rattle.raid_rules.specs.Sessions as rules
+use Rattle.raid_rules.specs.History.{noted, next, has_ended, version}
+use Rattle.raid_rules.specs.Sessions.{last_session, is_copy_locked, is_site_up}
 use Rattle.raid_rules.proofs.Push.{noted_push, same_txn}
-use Rattle.raid_rules.proofs.Sources.{has_kept}
 use Rattle.raid_legal.specs.Seen.{seen, value_of, vector, sources}
 use Rattle.raid_message.specs.declared.letter.Message.{Message}
 use Rattle.raid_message.specs.declared.letter.Message.TheVariants as letters
 use Rattle.raid_message.specs.declared.letter.Letter.{Letter}
-use Rattle.raid_steps.specs.State.{Out, Turn, Sequencer, Phase, asking, Copy, Running, SiteState, opened, to_site}
+use Rattle.raid_steps.specs.State.{Out, Turn, Sequencer, asking, Copy, Running, SiteState, opened, to_site}
 use Rattle.raid_steps.specs.Copies.{copy_of}
 use Rattle.raid_steps.specs.Programs.{running_of}
 use Rattle.raid_steps.specs.Sequencer.{so_far, place, hear_sequencer}
 use Rattle.raid_steps.specs.World.{World, link}
-use Rattle.raid_legal.specs.Answers.{served, answer_read}
-use Rattle.raid_legal.specs.Forced.{forced}
-use Rattle.raid_legal.specs.InForce.{verdict}
-use Rattle.raid_legal.proofs.Left.{forced_compels}
-use Rattle.raid_placed.specs.Placed.{Placed, Placeable, Goes}
+use Rattle.raid_placed.specs.Placed.{Placed}
 use Rattle.raid_placed.proofs.Sent.{placed_push}
 use Rattle.raid_sessions.proofs.Agreed.{told_follows}
 use Rattle.raid_sessions.proofs.Ledger.{session_still}
@@ -44,28 +35,29 @@ use Rattle.raid_sessions.proofs.Mail.{same_or_not, letter_of, letters_to, moved,
 use Rattle.raid_asks.proofs.Cares as cares
 use Rattle.raid_asks.proofs.Cares.{Stage, stopped, asleep, awake}
 use Rattle.raid_asks.proofs.Notes.{all_sent}
-use Rattle.raid_letters.specs.Says.{NoteSays, AskSays, was_applied, is_applied}
+use Rattle.raid_letters.specs.Says.{NoteSays, AskSays, is_applied}
 use Rattle.raid_letters.proofs.Later.{Later}
 use Rattle.raid_letters.proofs.Runs.{LetterSays, QueueSays, steps_on}
-use Rattle.raid_letters.proofs.Sends.{first_in}
 use Rattle.raid_layers.specs.Asks.{asks_of, ask_of, OfSequencer, AllTokens, IsBelow, Outstanding, asked, dropped, read, IsAbout, Talks, AskOneThing}
 use Rattle.raid_layers.proofs.Opening.{First, reads, waits, nothing, Chain, done, places, sends, IsLater, Opens, hear_opens}
 use Rattle.raid_layers.proofs.Settled.{Settled, chain_settled, calm_holds}
 use Rattle.raid_layers.proofs.SiteWorlds.{none_there}
-use Rattle.raid_layers.proofs.Tokens.{OnLinks, SentHolds, step_all, all_weaker, asked_home}
+use Rattle.raid_layers.proofs.Tokens.{SentHolds, step_all, all_weaker}
 use Rattle.raid_steps.specs.Fits.{knows_site}
 use Rattle.raid_steps.proofs.Parts.{number_known}
-use Rattle.raid_moves.proofs.Places.{all_found, something}
+use Rattle.raid_moves.proofs.Places.{all_found}
 use Rattle.raid_asks.proofs.Least.{Ours}
 use Rattle.raid_staged.proofs.Worlds.{Landed}
-use Rattle.raid_versions.specs.Versions.{was_written, IsVersion, IsLive, LastVersions, Along, after_letter, latest, IsKeptUp}
+use Rattle.raid_versions.specs.Versions.{IsVersion, IsLive, LastVersions, Along, after_letter, latest}
 use Rattle.raid_versions.proofs.Links.{IsAlike, AreAlike, latest_alike, along_on, AreForOthers, along_others, latest_others}
-use Rattle.raid_versions.proofs.Written.{version_long}
-use Rattle.raid_values.specs.Gets.{Ask, reads_for, ReadsSeen, brings_for, BringsSeen, IsAnsweredBySeen, GetWhatTheySaw}
+use Rattle.raid_versions.proofs.Placing.{read_source}
+use Rattle.raid_versions.proofs.Steps.{source_unlocked}
+use Rattle.raid_versions.proofs.Written.{numbered, version_long}
+use Rattle.raid_values.specs.Gets.{Ask, reads_for, ReadsSeen, BringsSeen, IsAnsweredBySeen, GetWhatTheySaw}
 use Rattle.raid_values.specs.Values.{committed_value}
-use Rattle.raid_values.proofs.Claims.{IsNot, below_not, NoneReads, along_none, none_on, none_read, read_parts, none_brought, Brought, brought_links, links_brought, none_answers}
+use Rattle.raid_values.proofs.Claims.{IsNot, below_not, NoneReads, along_none, none_on, none_read, read_parts, Brought, brought_links, links_brought, none_answers}
 use Rattle.raid_values.proofs.Committed.{step_goes}
-use Rattle.raid_values.proofs.Pushes.{GoesOn, seen_push, version_value, version_within, numbered_within}
+use Rattle.raid_values.proofs.Pushes.{GoesOn, seen_push, version_value, version_within}
 
 -- what isn't so in a later history wasn't in an earlier one
 earlier_not : (p q : List Noted) → ((test : Noted → Bool) → list_any test p ≡ true → list_any test q ≡ true) → (test : Noted → Bool) → list_any test q ≡ false → list_any test p ≡ false
@@ -127,43 +119,6 @@ module _ (w : Workload) where
     chain_placed a b done l = l
     chain_placed a b (places ask e y rest) l = ((placed_push w a.state.history e).0 (chain_placed (place w ask a e) b rest l)).0
     chain_placed a b (sends {next = next} outs same is other rest) l = subst (Placed w) same (chain_placed next b rest l)
-
-  -- the site that is to serve a Read is one of the sources
-  source_in : (found : List Site) (h s : Site) → source_for found h ≡ Some s → has_site found s ≡ true
-  source_in found h s q = go (has_site found h) refl q
-    where
-      go : (b : Bool) → has_site found h ≡ b → (if b then Some h else slice_get found 0) ≡ Some s → has_site found s ≡ true
-      go true e q = subst (λ z. has_site found z ≡ true) (something q) e
-      go false e q = first_in found s q
-
-  served_site : (t : Txn) (x : Item) (o : Option Site) (v : Verdict) (s : Site) → served t x o v ≡ Read t x s → o ≡ Some s
-  served_site t x None v s q = cc q
-  served_site t x (Some r) (verdicts.Reject why) s q = cc q
-  served_site t x (Some r) verdicts.Wait s q = cc q
-  served_site t x (Some r) verdicts.Grant s q = cc q
-
-  read_answers : (p : List Noted) (t : Txn) (x : Item) (s : Site) → Placeable w p (Read t x s) → answer_read w p t x ≡ Read t x s
-  read_answers p t x s goes = go (forced w p) refl goes
-    where
-      go : (o : Option Entry) → forced w p ≡ o → Goes w p (Read t x s) o → answer_read w p t x ≡ Read t x s
-      go None f g = g.1
-      go (Some must) f g = absurd (forced_compels w p (Read t x s) (f ∙ ap Some (sym g)))
-
-  -- a Read comes from a source
-  record IsFrom (p : List Noted) (x : Item) (s : Site) : Type 0 where
-    up : is_site_up (vector w p) s ≡ true
-    unlocked : is_copy_locked p s x ≡ false
-
-  read_from : (p : List Noted) (t : Txn) (x : Item) (s : Site) → Placeable w p (Read t x s) → IsFrom p x s
-  read_from p t x s goes =
-      let has = source_in (sources w p x) (home w t) s (served_site t x (source_for (sources w p x) (home w t)) (verdict w p (reading t (stamp p t) x)) s (read_answers p t x s goes)) in
-      let both = and_parts (rules.is_source w.sites (placement w) p x s) (has_site all_sites s) (sym (has_kept (rules.is_source w.sites (placement w) p x) s all_sites) ∙ has) in
-      let last = and_parts (has_site (rules.holders (placement w) x) s && is_site_up (rules.vector w.sites p) s) (not (is_copy_locked p s x)) both.0 in
-      record { up = (and_parts (has_site (rules.holders (placement w) x) s) (is_site_up (rules.vector w.sites p) s) last.0).1; unlocked = untrue (is_copy_locked p s x) last.1 }
-    where
-      untrue : (b : Bool) → not b ≡ true → b ≡ false
-      untrue true q = absurd (true≢false (sym q))
-      untrue false q = refl
 
   module _ (state : World) (landed : Landed w state) (versions : LastVersions (noted state.servers.sequencer.history) state.servers.sites state.links) (talk : AskOneThing w state)
       (gets : GetWhatTheySaw w (noted state.servers.sequencer.history) state.servers.sites state.links) (from clock : ℕ) (letter : Letter) (rest : List Letter) where
@@ -227,7 +182,7 @@ module _ (w : Workload) where
           here = site (j + 2 - 1)
 
           go : (m : Message) (to : ℕ) → NoteSays w p here to m → IsAlike p q x m
-          go (letters.Apply t n) to says = on.written x n (numbered_within (is_applied t here) n state.servers.sequencer.history says)
+          go (letters.Apply t n) to says = on.written x n ((numbered state.servers.sequencer.history (is_applied t here) n says).1)
           go other to says = tt
 
       -- a live site was live before, or nothing that was on its way is for its session
@@ -422,8 +377,8 @@ module _ (w : Workload) where
             seen_now : seen w q r.txn x ≡ Some (value_of w p x)
             seen_now = chain_sees from letter first now chain r.txn x ∙ seen_first ∙ ap (λ b. if b then Some (value_of w p x) else seen w p r.txn x) is_read
 
-            source : IsFrom p x from_site
-            source = subst (λ z. IsFrom p z from_site) its.1.0 (read_from p u y from_site ((placed_push w h (Read u y from_site)).0 (chain_placed from letter first now chain placed_after)).1)
+            source : (is_site_up (vector w p) from_site ≡ true) × (is_copy_locked p from_site x ≡ false)
+            source = source_unlocked w p x from_site (subst (λ z. has_site (sources w p z) from_site ≡ true) its.1.0 (read_source w p u y from_site ((placed_push w h (Read u y from_site)).0 (chain_placed from letter first now chain placed_after)).1))
 
             -- where it is meant for a live site, that was live before, and its copy has the last version there
             module _ (i : ℕ) (z : SiteState) (c : Copy) (there : IsLive q sites i z) (has : copy_of z x ≡ Some c) (v : ℕ) (eq : IsLive p sites i z → v ≡ latest p x z.session c.version (link state.links (i + 2) 1)) where
@@ -437,7 +392,7 @@ module _ (w : Workload) where
                   now_is = ap (session (vector w p)) (sym here) ∙ sym (session_still w h (Read u y from_site) from_site refl) ∙ eqb-true (session v_now from_site) z.session meant
 
                   is_up : 0 < session (vector w p) (site (i + 1))
-                  is_up = positive (session (vector w p) (site (i + 1))) (subst (λ z. is_site_up (vector w p) z ≡ true) here source.up)
+                  is_up = positive (session (vector w p) (site (i + 1))) (subst (λ z. is_site_up (vector w p) z ≡ true) here source.0)
 
                   last_is : last_session p (site (i + 1)) ≡ z.session
                   last_is = elim (landed.says.reached.ledger.accounts (site (i + 1)) (known_place i z there.at)).gone [
@@ -449,7 +404,7 @@ module _ (w : Workload) where
                   live_there = record { at = there.at; up = there.up; last = last_is }
 
                   current : latest p x z.session c.version (link state.links (i + 2) 1) ≡ version p x
-                  current = (versions.kept i z live_there x c has).current (subst (λ z. is_copy_locked p z x ≡ false) here source.unlocked)
+                  current = (versions.kept i z live_there x c has).current (subst (λ z. is_copy_locked p z x ≡ false) here source.1)
 
               none_behind : NoneReads a (letters_to (i + 2) 0 clock (others ++ (rest_of first chain).0))
               none_behind = none_to a i (others ++ (rest_of first chain).0) (all_append (λ (out : Out). reads_for a out.2 ≡ true → ⊥) others (rest_of first chain).0 none_others (none_later first chain))

@@ -1,9 +1,8 @@
 -- The value that a letter gives to a program is the one that its transaction has seen.
-use Rattle.std.proofs.Common.{◌≡◌, ℕ, ℤ, suc, ◌+◌, ◌-◌, ◌==◌, true, false, ◌&&◌, List, [], ◌∷◌, Option, Some, arith, sym, subst, ap, ◌∙◌, refl}
+use Rattle.std.proofs.Common.{◌≡◌, ℕ, ℤ, suc, ◌+◌, ◌-◌, ◌==◌, true, false, ◌&&◌, List, ◌∷◌, Option, Some, arith, sym, subst, ap, ◌∙◌, refl}
 use Rattle.std.specs.Prelude.{slice_get}
 use Rattle.std.specs.List.{AllByRecursion}
 use Rattle.std.proofs.lemmas.Bool.{and_from}
-use Rattle.raid_base.specs.declared.names.Txn.{Txn}
 use Rattle.raid_base.specs.declared.names.Item.{Item}
 use Rattle.raid_base.specs.declared.names.Site.{Site}
 use Rattle.raid_base.specs.declared.entry.Noted.{Noted}
@@ -11,27 +10,34 @@ use Rattle.raid_base.specs.Names.{is_txn, is_site}
 use Rattle.raid_base.specs.Sites.{site}
 use Rattle.raid_workload.specs.declared.workload.Workload.{Workload}
 use Rattle.raid_rules.specs.History.{noted, has_ended}
+use Rattle.raid_rules.specs.Sessions.{last_session}
 use Rattle.raid_legal.specs.Seen.{seen}
 use Rattle.raid_message.specs.declared.letter.Message.TheVariants as letters
 use Rattle.raid_message.specs.declared.letter.Letter.{Letter}
-use Rattle.raid_steps.specs.State.{asking, Copy, Running, SiteState}
+use Rattle.raid_message.specs.declared.letter.Pick.{Pick}
+use Rattle.raid_steps.specs.State.{asking, Running, SiteState}
 use Rattle.raid_steps.specs.Copies.{copy_of}
 use Rattle.raid_steps.specs.Programs.{running_of}
-use Rattle.raid_steps.specs.World.{World, link}
+use Rattle.raid_steps.specs.World.{World, link, run}
 use Rattle.raid_sessions.proofs.Lists.{is_same, same_self}
 use Rattle.raid_moves.specs.Moves.{Given, read_here, read_elsewhere}
 use Rattle.raid_letters.specs.Says.{NoteSays}
 use Rattle.raid_letters.proofs.Runs.{LetterSays, QueueSays}
 use Rattle.raid_layers.specs.Asks.{asks_of, OfSequencer, HoldsOf, AskOneThing}
+use Rattle.raid_layers.proofs.Laws.{asks_one}
 use Rattle.raid_layers.proofs.Tokens.{TokenAt}
 use Rattle.raid_staged.specs.Agree.{PartsAgree}
+use Rattle.raid_staged.proofs.PartRuns.{runs_agree}
+use Rattle.raid_staged.proofs.Runs.{landed}
 use Rattle.raid_staged.proofs.Worlds.{Landed}
 use Rattle.raid_versions.specs.Versions.{IsLive, Along}
-use Rattle.raid_values.specs.Gets.{Ask, reads_for, ReadsSeen, brings_for, BringsSeen, IsAnsweredBySeen, GetWhatTheySaw}
-use Rattle.raid_values.specs.Values.{committed_value, IsCommitted}
+use Rattle.raid_values.specs.Gets.{Ask, reads_for, ReadsSeen, brings_for, BringsSeen, IsAnsweredBySeen, GetWhatTheySaw, GivesSeen}
+use Rattle.raid_values.specs.Values.{committed_value}
 use Rattle.raid_values.proofs.Claims.{IsOfItem, of_item, read_whole}
-use Rattle.raid_values.proofs.Committed.{AllOf, CopyOf, found_item, own_copy}
+use Rattle.raid_values.proofs.Committed.{AllOf, CopyOf, own_copy}
+use Rattle.raid_values.proofs.GetsRuns.{runs_get}
 use Rattle.raid_values.proofs.GetsWorlds.{outstanding}
+use Rattle.raid_values.proofs.Runs.{runs_of}
 
 module _ (w : Workload) (state : World) (landed : Landed w state) (agree : PartsAgree w state) (copies : AllOf w (noted state.servers.sequencer.history) state.servers.sites state.links) (talk : AskOneThing w state)
     (gets : GetWhatTheySaw w (noted state.servers.sequencer.history) state.servers.sites state.links)
@@ -93,3 +99,13 @@ module _ (w : Workload) (state : World) (landed : Landed w state) (agree : Parts
         where
           brings_whole : (letter.to == own.session) ≡ true → brings_for a letter.to (letters.Value r.txn number u) ≡ true
           brings_whole meant = and_from (is_txn r.txn r.txn && number == number) (letter.to == own.session) (and_from (is_txn r.txn r.txn) (number == number) (same_self r.txn.0) (same_self number)) meant
+
+-- so in every run
+pub runs_give : (w : Workload) (schedule : List Pick) (k : ℕ) (s : SiteState) → slice_get (run w schedule).servers.sites k ≡ Some s → s.up ≡ true → last_session (noted (run w schedule).servers.sequencer.history) (site (k + 1)) ≡ s.session →
+    (from : ℕ) (letter : Letter) (rest : List Letter) → link (run w schedule).links (suc (suc k)) from ≡ letter ∷ rest → (r : Running) (ask : ℕ) (x : Item) (q : Option Site) (v : ℤ) → running_of s r.txn ≡ Some r → r.phase ≡ asking ask x q →
+    has_ended (noted (run w schedule).servers.sequencer.history) r.txn ≡ false → Given w s from letter r.txn ask v → seen w (noted (run w schedule).servers.sequencer.history) r.txn x ≡ Some v
+runs_give w schedule k s at up last from letter rest front =
+    given_seen w (run w schedule) (landed w schedule) (runs_agree w schedule) (runs_of w schedule) (asks_one w schedule) (runs_get w schedule) from 0 letter rest k s (record { at = at; up = up; last = last }) front
+
+pub all_give : (w : Workload) (schedule : List Pick) → GivesSeen w (run w schedule)
+all_give w schedule k s live from letter rest front = runs_give w schedule k s live.at live.up live.last from letter rest (ap (λ c. link (run w schedule).links c from) (let e : suc (suc k) ≡ k + 2 = omega arith in e) ∙ front)

@@ -1,27 +1,25 @@
 -- Where no letter is left, each copy that may be read has its item's final value and version.
-use Rattle.std.proofs.Common.{◌≡◌, ◌⊎◌, inl, inr, ℕ, ℤ, zero, suc, ◌+◌, ◌<◌, ◌≤◌, ◌==◌, nat_lt, Bool, true, false, not, ◌&&◌, List, [], ◌∷◌, ◌++◌, length, map, filter, Option, Some, None, if◌then◌else◌, arith, sym, subst, ap, ◌∙◌, refl}
+use Rattle.std.proofs.Common.{◌≡◌, inl, inr, ℕ, ℤ, zero, suc, ◌+◌, ◌<◌, ◌≤◌, ◌==◌, nat_lt, Bool, true, false, not, ◌&&◌, List, [], ◌∷◌, ◌++◌, length, map, Some, if◌then◌else◌, arith, sym, subst, ap, ◌∙◌, refl}
 use Rattle.std.specs.Prelude.{flat_map, slice_get, slice_index_or}
 use Rattle.std.specs.List.{AllByRecursion, list_all}
 use Rattle.std.proofs.lemmas.Bool.{and_parts, eqb-true, true≢false, OnTrue_from}
 use Rattle.raid_base.specs.declared.names.Item.{Item}
-use Rattle.raid_base.specs.declared.names.Site.{Site}
 use Rattle.raid_base.specs.declared.entry.Noted.{Noted}
 use Rattle.raid_base.specs.declared.report.CopyLine.{CopyLine}
-use Rattle.raid_base.specs.declared.report.Report.{Report}
 use Rattle.raid_base.specs.Find.{first_of}
-use Rattle.raid_base.specs.Sites.{session, site}
+use Rattle.raid_base.specs.Sites.{site}
 use Rattle.raid_workload.specs.declared.workload.Workload.{Workload}
 use Rattle.raid_workload.specs.Parts.{items, count_from}
 use Rattle.raid_rules.specs.History.{noted, version}
-use Rattle.raid_rules.specs.Sessions.{last_session, is_copy_locked}
-use Rattle.raid_legal.specs.Seen.{value_of, vector, is_up, is_locked}
+use Rattle.raid_rules.specs.Sessions.{is_copy_locked}
+use Rattle.raid_legal.specs.Seen.{value_of, is_up, is_locked}
 use Rattle.raid_legal.specs.Serial.{Each, IsCurrent}
 use Rattle.raid_message.specs.declared.letter.Letter.{Letter}
 use Rattle.raid_message.specs.declared.letter.Pick.{Pick}
 use Rattle.raid_steps.specs.State.{Copy, SiteState}
 use Rattle.raid_steps.specs.World.{World, link, run, report, is_idle, copy_lines}
 use Rattle.raid_steps.proofs.Parts.{number_known}
-use Rattle.raid_sessions.specs.Present.{told_session, own_session}
+use Rattle.raid_sessions.specs.Present.{told_session}
 use Rattle.raid_sessions.proofs.Agreed.{run_idle}
 use Rattle.raid_sessions.proofs.Lists.{get_below}
 use Rattle.raid_moves.proofs.Places.{all_both, all_kept}

@@ -1,12 +1,9 @@
 -- In every run a site has one copy of each item that it holds, and of no other.
-use Rattle.std.proofs.Common.{◌≡◌, ◌≢◌, ◌⊎◌, inl, inr, ℕ, ℤ, zero, suc, ◌+◌, ◌<◌, ◌≤◌, ◌==◌, Bool, true, false, List, [], ◌∷◌, ◌++◌, length, map, filter, find, Option, Some, None, if◌then◌else◌, arith, sym, subst, ap, ◌∙◌, refl, append-nil, append_assoc}
+use Rattle.std.proofs.Common.{◌≡◌, ◌≢◌, ◌⊎◌, inl, inr, ℕ, zero, suc, ◌+◌, ◌<◌, ◌==◌, Bool, true, false, List, [], ◌∷◌, ◌++◌, length, map, filter, find, Option, Some, None, if◌then◌else◌, arith, sym, subst, ap, ◌∙◌, refl, append-nil, append_assoc}
 use Rattle.std.specs.Prelude.{slice_get, slice_set}
-use Rattle.std.specs.Option.{option_map_or}
 use Rattle.std.specs.List.{AllByRecursion}
 use Rattle.std.proofs.lemmas.List.Sums.{fold-append}
 use Rattle.raid_base.specs.declared.names.Item.{Item}
-use Rattle.raid_base.specs.declared.names.Site.{Site}
-use Rattle.raid_base.specs.Find.{first_of}
 use Rattle.raid_base.specs.Names.{is_item}
 use Rattle.raid_base.specs.Sites.{site}
 use Rattle.raid_workload.specs.declared.workload.Workload.{Workload}
@@ -14,42 +11,26 @@ use Rattle.raid_workload.specs.Parts.{items, count_from, initial}
 use Rattle.raid_message.specs.declared.letter.Letter.{Letter}
 use Rattle.raid_message.specs.declared.letter.Pick.{Pick}
 use Rattle.raid_steps.specs.State.{Copy, SiteState}
-use Rattle.raid_steps.specs.Copies.{copy_of, renewed}
+use Rattle.raid_steps.specs.Copies.{renewed}
 use Rattle.raid_steps.specs.Site.{hear_site}
-use Rattle.raid_steps.specs.World.{World, hear, hear_at, link, take_front, pick, run, open_world, first_site}
+use Rattle.raid_steps.specs.World.{World, hear, hear_at, link, take_front, pick, run, open_world}
 use Rattle.raid_sessions.proofs.Lists.{get_below, get_set, get_other, some_is}
 use Rattle.raid_sessions.proofs.Mail.{same_or_not}
 use Rattle.raid_moves.specs.Moves.{Ascend}
-use Rattle.raid_moves.proofs.Places.{all_found, all_kept, all_both, all_weaken, nothing}
+use Rattle.raid_moves.proofs.Places.{all_kept, all_both}
 use Rattle.raid_asks.proofs.Reached.{first_state}
 use Rattle.raid_letters.specs.Says.{is_held}
 use Rattle.raid_staged.proofs.Runs.{landed}
-use Rattle.raid_values.proofs.Rows.{Renews, left, applies, brings, step_renews}
+use Rattle.raid_versions.proofs.SiteCopies.{renewed_item, set_in, set_item}
+use Rattle.raid_versions.proofs.SiteParts.{Copied, keeps, applies, renews, step_copies}
 
 abbrev pub items_of : List Copy → List Item
 items_of cs = map (λ (c : Copy). c.item) cs
 
 -- a change of each copy that keeps its item
 pub same_items : (f : Copy → Copy) → ((c : Copy) → (f c).item ≡ c.item) → (cs : List Copy) → items_of (map f cs) ≡ items_of cs
-same_items f keeps [] = refl
-same_items f keeps (c ∷ cs) = ap (λ x. x ∷ items_of (map f cs)) (keeps c) ∙ ap (λ xs. c.item ∷ xs) (same_items f keeps cs)
-
-pub renewed_item : (number : ℕ) (ps : List (Item × ℤ)) (c : Copy) → (renewed number ps c).item ≡ c.item
-renewed_item number ps c = go (first_of c.item ps)
-  where
-    go : (o : Option ℤ) → (option_map_or (λ v. let d : Copy = record { item = c.item; value = v; version = number } in d) o c).item ≡ c.item
-    go None = refl
-    go (Some v) = refl
-
-abbrev pub set_one : Item → ℤ → ℕ → Copy → Copy
-set_one x v version c = if is_item x c.item then record { item = c.item; value = v; version = version } else c
-
-pub set_item : (x : Item) (v : ℤ) (version : ℕ) (c : Copy) → (set_one x v version c).item ≡ c.item
-set_item x v version c = go (is_item x c.item)
-  where
-    go : (b : Bool) → (let d : Copy = if b then record { item = c.item; value = v; version = version } else c in d).item ≡ c.item
-    go true = refl
-    go false = refl
+same_items f each [] = refl
+same_items f each (c ∷ cs) = ap (λ x. x ∷ items_of (map f cs)) (each c) ∙ ap (λ xs. c.item ∷ xs) (same_items f each cs)
 
 -- items ascend
 abbrev AreAbove : Item → List Item → Type 0
@@ -114,10 +95,10 @@ module _ (w : Workload) where
   abbrev At : World → Type 0
   At state = (k : ℕ) (s : SiteState) → slice_get state.servers.sites k ≡ Some s → items_of s.copies ≡ held_items k
 
-  renews_items : (state : SiteState) (from : ℕ) (letter : Letter) {cs : List Copy} → Renews w state from letter cs → items_of cs ≡ items_of state.copies
-  renews_items state from letter (left none) = refl
-  renews_items state from letter (applies t number ps m q) = same_items (renewed number ps) (renewed_item number ps) state.copies
-  renews_items state from letter (brings k x v version c m q l) = same_items (set_one x v version) (set_item x v version) state.copies
+  copied_items : (state : SiteState) (from : ℕ) (letter : Letter) → Copied w state from letter (hear_site w state from letter) → items_of (hear_site w state from letter).state.copies ≡ items_of state.copies
+  copied_items state from letter (keeps same passes sent) = ap items_of same
+  copied_items state from letter (applies t number ps m q same sent) = ap items_of same ∙ same_items (renewed number ps) (renewed_item number ps) state.copies
+  copied_items state from letter (renews k x v version c m q l same sent) = ap items_of same ∙ same_items (set_in x v version) (set_item x v version) state.copies
 
   hear_items : (state : World) → ((k : ℕ) (s : SiteState) → slice_get state.servers.sites k ≡ Some s → Ascend s.running) → At state → (server from : ℕ) (l : Letter) →
       (k : ℕ) (s : SiteState) → slice_get (hear w state.servers server from l).0.sites k ≡ Some s → items_of s.copies ≡ held_items k
@@ -132,7 +113,7 @@ module _ (w : Workload) where
           by : (k ≡ j) ⊎ (k ≢ j) → items_of s.copies ≡ held_items k
           by (inl e) =
               let is : (hear_site w own from l).state ≡ s = some_is (hear_site w own from l).state s (sym (get_set state.servers.sites j (hear_site w own from l).state (get_below state.servers.sites j own at)) ∙ ap (slice_get (slice_set state.servers.sites j (hear_site w own from l).state)) (sym e) ∙ there) in
-              ap (λ (z : SiteState). items_of z.copies) (sym is) ∙ renews_items own from l (step_renews w own from l (ascends j own at)) ∙ all j own at ∙ ap held_items (sym e)
+              ap (λ (z : SiteState). items_of z.copies) (sym is) ∙ copied_items own from l (step_copies w own from l (ascends j own at)) ∙ all j own at ∙ ap held_items (sym e)
           by (inr differ) = all k s (sym (get_other state.servers.sites j k (hear_site w own from l).state differ) ∙ there)
 
   front_items : (state : World) (server from : ℕ) (queue : List Letter) → ((k : ℕ) (s : SiteState) → slice_get state.servers.sites k ≡ Some s → Ascend s.running) → At state → At (take_front w state server from queue)

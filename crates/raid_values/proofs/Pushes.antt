@@ -1,24 +1,24 @@
 -- What a history with one more entry says of values: of those that Commits gave, of the last one, and of what was seen.
-use Rattle.std.proofs.Common.{◌≡◌, ◌⊎◌, inl, inr, ℕ, ℤ, ◌+◌, ◌<◌, ◌≤◌, ◌==◌, Bool, true, false, ◌&&◌, ◌||◌, List, [], ◌∷◌, ◌++◌, length, length-append, Option, Some, None, unwrap_or, if◌then◌else◌, arith, sym, subst, ap, ◌∙◌, refl}
+use Rattle.std.proofs.Common.{◌≡◌, ℕ, ℤ, ◌+◌, ◌<◌, ◌≤◌, ◌==◌, Bool, true, false, ◌&&◌, ◌||◌, List, [], ◌∷◌, ◌++◌, length, Some, None, unwrap_or, if◌then◌else◌, arith, sym, subst, ap, ◌∙◌, refl}
 use Rattle.std.specs.List.{AllByRecursion, list_any}
 use Rattle.std.proofs.lemmas.Bool.{and_parts, eqb-true, true≢false}
-use Rattle.std.proofs.lemmas.Grind.{common_steps}
 use Rattle.std.proofs.lemmas.List.Sums.{fold-append}
 use Rattle.raid_base.specs.declared.names.Txn.{Txn}
 use Rattle.raid_base.specs.declared.names.Item.{Item}
 use Rattle.raid_base.specs.declared.entry.Entry.{Entry}
 use Rattle.raid_base.specs.declared.entry.Noted.{Noted}
 use Rattle.raid_base.specs.Find.{first_of}
-use Rattle.raid_base.specs.Names.{is_item, holds}
+use Rattle.raid_base.specs.Names.{holds}
 use Rattle.raid_workload.specs.declared.workload.Workload.{Workload}
 use Rattle.raid_workload.specs.Parts.{initial}
 use Rattle.raid_rules.specs.Entries.{reads_item, writes_of}
-use Rattle.raid_rules.specs.History.{noted, add, next, number_of, version}
+use Rattle.raid_rules.specs.History.{noted, add, next, version}
 use Rattle.raid_rules.proofs.Places.{by_last}
 use Rattle.raid_rules.proofs.Push.{fold_seeing_push, noted_push, number_of_push}
 use Rattle.raid_legal.specs.Seen.{seen, value_of}
 use Rattle.raid_layers.proofs.Histories.{any_push}
 use Rattle.raid_versions.specs.Versions.{was_written}
+use Rattle.raid_versions.proofs.Written.{at_push, long_push, numbered, version_is, version_long}
 use Rattle.raid_values.specs.Values.{committed_value}
 
 -- pairs
@@ -45,28 +45,6 @@ other_number a b q = grind (arith, q)
 same_number : (a : ℕ) → (a == a) ≡ true
 same_number a = grind arith
 
-add_long : (p : List Noted) (e : Entry) → length (add p e) ≡ length p + 1
-add_long p e = length-append p (next p e ∷ [])
-
--- a test of the last number is passed by the last entry alone
-pub numbered_within : (test : Entry → Bool) (number : ℕ) (h : List Entry) → list_any (λ (n : Noted). (n.at == number) && test n.entry) (noted h) ≡ true → number ≤ length (noted h)
-numbered_within test number = by_last (λ h. list_any (λ (n : Noted). (n.at == number) && test n.entry) (noted h) ≡ true → number ≤ length (noted h)) (λ q. absurd (true≢false (sym q))) more
-  where
-    either : (a b : Bool) → (a || b) ≡ true → (a ≡ true) ⊎ (b ≡ true)
-    either true b q = inl refl
-    either false b q = inr q
-
-    more : (h : List Entry) (e : Entry) → (list_any (λ (n : Noted). (n.at == number) && test n.entry) (noted h) ≡ true → number ≤ length (noted h)) →
-        list_any (λ (n : Noted). (n.at == number) && test n.entry) (noted (h ++ e ∷ [])) ≡ true → number ≤ length (noted (h ++ e ∷ []))
-    more h e rest q =
-        let p = noted h in
-        let long = ap length (noted_push h e) ∙ add_long p e in
-        elim (either (list_any (λ (n : Noted). (n.at == number) && test n.entry) p) ((length p + 1 == number) && test e)
-            (sym (ap (list_any (λ (n : Noted). (n.at == number) && test n.entry)) (noted_push h e) ∙ any_push (λ (n : Noted). (n.at == number) && test n.entry) p (next p e)) ∙ q)) [
-          | inl old ↦ (let low = rest old in omega (arith, low, long))
-          | inr now ↦ (let same = eqb-true (length p + 1) number (and_parts (length p + 1 == number) (test e) now).0 in omega (arith, same, long))
-        ]
-
 module _ (w : Workload) where
   -- what Commits gave
   pub committed_push : (p : List Noted) (n : Noted) (x : Item) (number : ℕ) →
@@ -91,7 +69,7 @@ module _ (w : Workload) where
           (number : ℕ) → length (noted (h ++ e ∷ [])) < number → committed_value w (noted (h ++ e ∷ [])) x number ≡ initial w x
       more h e rest number above =
           let p = noted h in
-          let long = ap length (noted_push h e) ∙ add_long p e in
+          let long = ap length (noted_push h e) ∙ long_push p e in
           ap (λ q. committed_value w q x number) (noted_push h e) ∙ committed_push p (next p e) x number
           ∙ ap (λ b. if b then unwrap_or (first_of x (writes_of e)) (committed_value w p x number) else committed_value w p x number) (below (length p + 1) number (omega (arith, above, long)))
           ∙ rest number (omega (arith, above, long))
@@ -107,12 +85,9 @@ module _ (w : Workload) where
     pub value : (x : Item) → committed_value w p x number ≡ unwrap_or (first_of x (writes_of entry)) (initial w x)
     pub written : (x : Item) → was_written p x number ≡ holds x (writes_of entry)
 
-  written_push : (p : List Noted) (e : Entry) (x : Item) (number : ℕ) → was_written (add p e) x number ≡ (was_written p x number || ((length p + 1 == number) && holds x (writes_of e)))
-  written_push p e x number = any_push (λ (n : Noted). (n.at == number) && holds x (writes_of n.entry)) p (next p e)
-
   pub written_still : (p : List Noted) (e : Entry) (x : Item) (number : ℕ) → number ≤ length p → was_written (add p e) x number ≡ was_written p x number
   written_still p e x number low =
-      written_push p e x number ∙ ap (λ b. was_written p x number || (b && holds x (writes_of e))) (other_number number (length p + 1) (omega (arith, low))) ∙ none (was_written p x number)
+      at_push (λ e. holds x (writes_of e)) p e number ∙ ap (λ b. was_written p x number || (b && holds x (writes_of e))) (other_number number (length p + 1) (omega (arith, low))) ∙ none (was_written p x number)
     where
       none : (b : Bool) → (b || false) ≡ b
       none true = refl
@@ -134,7 +109,7 @@ module _ (w : Workload) where
         let p = noted h in
         let parts = all_first p (next p e) a in
         either (list_any (λ (n : Noted). (n.at == number) && test n.entry) p) ((length p + 1 == number) && test e) (sym (any_push (λ (n : Noted). (n.at == number) && test n.entry) p (next p e)) ∙ q)
-        (λ old. before (numbered_within test number h old) (rest old parts.0))
+        (λ old. before (numbered h test number old).1 (rest old parts.0))
         (λ now. let both = and_parts (length p + 1 == number) (test e) now in latest (eqb-true (length p + 1) number both.0) both.1 parts.1)
       where
         p : List Noted
@@ -159,7 +134,7 @@ module _ (w : Workload) where
           passes = passes;
           holds_of = has;
           value = λ x. committed_now p e x ∙ ap (unwrap_or (first_of x (writes_of e))) (committed_later x h (length p + 1) (omega arith));
-          written = λ x. written_push p e x (length p + 1) ∙ ap (λ b. was_written p x (length p + 1) || (b && holds x (writes_of e))) (same_number (length p + 1)) ∙ now (was_written p x (length p + 1)) (holds x (writes_of e)) (beyond x);
+          written = λ x. at_push (λ e. holds x (writes_of e)) p e (length p + 1) ∙ ap (λ b. was_written p x (length p + 1) || (b && holds x (writes_of e))) (same_number (length p + 1)) ∙ now (was_written p x (length p + 1)) (holds x (writes_of e)) (beyond x);
         })
           where
             now : (a b : Bool) → (a ≡ true → ⊥) → (a || b) ≡ b
@@ -167,7 +142,7 @@ module _ (w : Workload) where
             now false b none = refl
 
             beyond : (x : Item) → was_written p x (length p + 1) ≡ true → ⊥
-            beyond x q = (let low = numbered_within (λ e. holds x (writes_of e)) (length p + 1) h q in omega (arith, low))
+            beyond x q = (let low = (numbered h (λ e. holds x (writes_of e)) (length p + 1) q).1 in omega (arith, low))
 
     pub gave : (h : List Entry) → IsThere (noted h) → AllOf (noted h) → Gave Q test (noted h) number
     gave = by_last (λ h. IsThere (noted h) → AllOf (noted h) → Gave Q test (noted h) number) (λ q a. absurd (true≢false (sym q)))
@@ -180,15 +155,9 @@ module _ (w : Workload) where
   version_push : (p : List Noted) (e : Entry) (x : Item) → version (add p e) x ≡ (if holds x (writes_of e) then length p + 1 else version p x)
   version_push p e x = number_of_push (λ e. holds x (writes_of e)) p (next p e)
 
+  -- the last version is no larger than there are entries
   pub version_within : (x : Item) (h : List Entry) → version (noted h) x ≤ length (noted h)
-  version_within x = by_last (λ h. version (noted h) x ≤ length (noted h)) (omega arith) more
-    where
-      more : (h : List Entry) (e : Entry) → version (noted h) x ≤ length (noted h) → version (noted (h ++ e ∷ [])) x ≤ length (noted (h ++ e ∷ []))
-      more h e low = subst (λ q. version q x ≤ length q) (sym (noted_push h e)) (subst (λ n. n ≤ length (add (noted h) e)) (sym (version_push (noted h) e x)) (go (holds x (writes_of e))))
-        where
-          go : (b : Bool) → (if b then length (noted h) + 1 else version (noted h) x) ≤ length (add (noted h) e)
-          go true = (let long = add_long (noted h) e in omega (arith, long))
-          go false = (let long = add_long (noted h) e in omega (arith, long, low))
+  version_within x h = version_long h x (version (noted h) x) (version_is h x)
 
   -- the last version's value is the item's
   pub version_value : (x : Item) (h : List Entry) → committed_value w (noted h) x (version (noted h) x) ≡ value_of w (noted h) x
@@ -228,7 +197,7 @@ module _ (w : Workload) where
 
   pub goes_more : (h : List Entry) (e : Entry) → GoesOn (noted h) (noted (h ++ e ∷ []))
   goes_more h e = subst (GoesOn (noted h)) (sym (noted_push h e)) (record {
-    long = (let l = add_long (noted h) e in omega (arith, l));
+    long = (let l = long_push (noted h) e in omega (arith, l));
     values = committed_still (noted h) e;
     written = written_still (noted h) e;
   })

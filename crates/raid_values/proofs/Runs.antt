@@ -1,5 +1,5 @@
 -- In every run, copies have the values of their commits.
-use Rattle.std.proofs.Common.{◌≡◌, ℕ, zero, suc, ◌+◌, ◌==◌, Bool, true, false, List, [], ◌∷◌, ◌++◌, map, filter, replicate, Option, Some, None, arith, sym, subst, ap, refl, append-nil, append_assoc}
+use Rattle.std.proofs.Common.{◌≡◌, ℕ, zero, suc, ◌+◌, List, [], ◌∷◌, ◌++◌, map, replicate, Option, Some, None, arith, sym, subst, ap, refl, append-nil, append_assoc}
 use Rattle.std.specs.Prelude.{max, slice_get, slice_set, slice_index, slice_index_or}
 use Rattle.std.specs.List.{AllByRecursion}
 use Rattle.std.specs.Option.{option_map_or}
@@ -8,7 +8,7 @@ use Rattle.raid_base.specs.declared.names.Item.{Item}
 use Rattle.raid_base.specs.declared.names.Site.{Site}
 use Rattle.raid_base.specs.declared.entry.Noted.{Noted}
 use Rattle.raid_workload.specs.declared.workload.Workload.{Workload}
-use Rattle.raid_workload.specs.Parts.{sites, items, initial}
+use Rattle.raid_workload.specs.Parts.{sites, initial}
 use Rattle.raid_rules.specs.History.{noted}
 use Rattle.raid_message.specs.declared.letter.Message.{Message}
 use Rattle.raid_message.specs.declared.letter.Message.TheVariants as letters
@@ -22,7 +22,6 @@ use Rattle.raid_sessions.proofs.Lists.{all_weaken, get_below, get_set}
 use Rattle.raid_sessions.proofs.Mail.{moved}
 use Rattle.raid_sessions.proofs.Reached.{server_below}
 use Rattle.raid_asks.proofs.Reached.{first_state}
-use Rattle.raid_letters.specs.Says.{is_held}
 use Rattle.raid_letters.proofs.Runs.{all_at, all_empty}
 use Rattle.raid_layers.proofs.Runs.{nobody}
 use Rattle.raid_staged.specs.Agree.{PartsAgree}

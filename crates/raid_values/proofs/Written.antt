@@ -1,8 +1,7 @@
 -- What is staged at a site for a Commit that is applied there is what the Commit gave the site's items.
-use Rattle.std.proofs.Common.{◌≡◌, ℕ, ℤ, ◌+◌, ◌≤◌, ◌==◌, Bool, true, false, ◌&&◌, ◌||◌, List, [], ◌∷◌, length, filter, find, Option, Some, None, unwrap_or, if◌then◌else◌, sym, subst, ap, ◌∙◌, refl}
-use Rattle.std.specs.Prelude.{slice_get, option_map}
-use Rattle.std.specs.List.{AllByRecursion}
-use Rattle.std.proofs.lemmas.Bool.{and_parts, eqb-true, true≢false}
+use Rattle.std.proofs.Common.{◌≡◌, ℕ, ℤ, ◌+◌, ◌≤◌, Bool, true, false, List, [], ◌∷◌, length, Option, Some, None, unwrap_or, if◌then◌else◌, sym, subst, ap, ◌∙◌, refl}
+use Rattle.std.specs.Prelude.{slice_get}
+use Rattle.std.proofs.lemmas.Bool.{and_parts, true≢false}
 use Rattle.raid_base.specs.declared.names.Txn.{Txn}
 use Rattle.raid_base.specs.declared.names.Item.{Item}
 use Rattle.raid_base.specs.declared.names.Site.{Site}
@@ -21,16 +20,14 @@ use Rattle.raid_steps.specs.State.{SiteState}
 use Rattle.raid_steps.specs.Copies.{staged_of}
 use Rattle.raid_steps.specs.Programs.{held_by}
 use Rattle.raid_steps.specs.World.{World}
-use Rattle.raid_moves.proofs.Places.{something, nothing}
+use Rattle.raid_moves.proofs.Places.{nothing}
 use Rattle.raid_letters.specs.Says.{is_held, is_applied, was_applied}
 use Rattle.raid_staged.specs.Agree.{AreParts, EntryAgrees, IsPartOf, PartsAgree}
-use Rattle.raid_staged.specs.Staged.{history}
 use Rattle.raid_versions.specs.Versions.{was_written}
+use Rattle.raid_versions.proofs.SiteCopies.{same_item, staged_has}
+use Rattle.raid_versions.proofs.Written.{numbered}
 use Rattle.raid_values.specs.Values.{committed_value}
-use Rattle.raid_values.proofs.Pushes.{Gave, gave, numbered_within, held_first, unheld_first}
-
-pub same_item : (x y : Item) → is_item x y ≡ true → y ≡ x
-same_item x y q = ap (λ n. let z : Item = record { 0 = n } in z) (eqb-true y.0 x.0 q)
+use Rattle.raid_values.proofs.Pushes.{Gave, gave, held_first, unheld_first}
 
 -- a site's part of some writes has the same value of an item that the site holds, and none of another
 pub part_first : (w : Workload) (s : Site) (x : Item) (ps : List (Item × ℤ)) → first_of x (held_by w s ps) ≡ (if is_held w s x then first_of x ps else None)
@@ -55,20 +52,6 @@ part_first w s x (p ∷ ps) = go (is_item x p.0) refl (is_held w s p.0) refl (pa
     go false other true here rest = ap (λ a. if a then Some p.1 else first_of x (held_by w s ps)) other ∙ rest ∙ ap (λ a. if is_held w s x then (if a then Some p.1 else first_of x ps) else None) (sym other)
     go false other false away rest = rest ∙ ap (λ a. if is_held w s x then (if a then Some p.1 else first_of x ps) else None) (sym other)
 
--- what is found staged was staged for the transaction
-pub staged_found : (P : Txn × List (Item × ℤ) → Type 0) (t : Txn) (s : SiteState) (ps : List (Item × ℤ)) → AllByRecursion P s.staged → staged_of s t ≡ Some ps → (e : Txn × List (Item × ℤ)) × ((e.1 ≡ ps) × ((is_txn t e.0 ≡ true) × P e))
-staged_found P t s ps a q = go s.staged a q
-  where
-    go : (es : List (Txn × List (Item × ℤ))) → AllByRecursion P es → option_map (λ (e : Txn × List (Item × ℤ)). e.1) (find (λ (e : Txn × List (Item × ℤ)). is_txn t e.0) es) ≡ Some ps → (e : Txn × List (Item × ℤ)) × ((e.1 ≡ ps) × ((is_txn t e.0 ≡ true) × P e))
-    go [] a q = absurd (nothing q)
-    go (e ∷ es) a q = here (is_txn t e.0) refl q (go es a.1)
-      where
-        here : (b : Bool) → is_txn t e.0 ≡ b → option_map (λ (e : Txn × List (Item × ℤ)). e.1) (if b then Some e else find (λ (e : Txn × List (Item × ℤ)). is_txn t e.0) es) ≡ Some ps →
-            (option_map (λ (e : Txn × List (Item × ℤ)). e.1) (find (λ (e : Txn × List (Item × ℤ)). is_txn t e.0) es) ≡ Some ps → (e : Txn × List (Item × ℤ)) × ((e.1 ≡ ps) × ((is_txn t e.0 ≡ true) × P e))) →
-            (e : Txn × List (Item × ℤ)) × ((e.1 ≡ ps) × ((is_txn t e.0 ≡ true) × P e))
-        here true same q rest = (e, (something q, (same, a.0)))
-        here false other q rest = rest q
-
 module _ (w : Workload) where
   -- The Commit with this number is applied at the site: the pairs, staged for its transaction there, are what it wrote of the site's items
   pub record Applied (p : List Noted) (here : Site) (number : ℕ) (ps : List (Item × ℤ)) : Type 0 where
@@ -90,8 +73,7 @@ module _ (w : Workload) where
     part (Commit u request applied) h agrees =
         let mine : u ≡ t = same_txn u t (and_parts (is_txn t u) (has_site applied (site (k + 1))) h).0 in
         let parts : AreParts w state t (Some request.writes) = subst (λ z. AreParts w state z (Some request.writes)) mine agrees in
-        let found = staged_found (λ (e : Txn × List (Item × ℤ)). is_txn t e.0 ≡ true → IsPartOf w (site (k + 1)) (Some request.writes) e.1) t s ps (parts.staged k s at) has in
-        sym found.1.0 ∙ found.1.1.1 found.1.1.0
+        staged_has (IsPartOf w (site (k + 1)) (Some request.writes)) s t ps has (parts.staged k s at)
     part other h agrees = absurd (true≢false (sym h))
 
     abbrev writes : List (Item × ℤ)
@@ -115,7 +97,7 @@ module _ (w : Workload) where
 
     pub applied_here : Applied (noted state.servers.sequencer.history) (site (k + 1)) number ps
     applied_here = record {
-      within = numbered_within (is_applied t (site (k + 1))) number state.servers.sequencer.history told;
+      within = (numbered state.servers.sequencer.history (is_applied t (site (k + 1))) number told).1;
       values = λ x v q. (let first = value_is x v (is_held w (site (k + 1)) x) (sym (first_is x) ∙ q) in
           (the_entry.value x ∙ ap (λ o. unwrap_or o (initial w x)) first, the_entry.written x ∙ is_written x v (holds x writes) refl first));
       none = λ x here q. the_entry.written x ∙ unwritten x (holds x writes) refl (sym (ap (λ b. if b then first_of x writes else None) here) ∙ sym (first_is x) ∙ q);

@@ -1,5 +1,5 @@
 -- What programs get for their reads is what the history says that they have seen.
-use Rattle.std.specs.Prelude.{◌≡◌, ℕ, ◌+◌, ◌==◌, Bool, true, false, ◌&&◌, List, Option, Some, ⊤}
+use Rattle.std.specs.Prelude.{◌≡◌, ℕ, ℤ, ◌+◌, ◌==◌, Bool, true, false, ◌&&◌, List, ◌∷◌, Option, Some, ⊤}
 use Rattle.std.specs.List.{AllByRecursion}
 use Rattle.raid_base.specs.declared.names.Txn.{Txn}
 use Rattle.raid_base.specs.declared.names.Item.{Item}
@@ -16,6 +16,7 @@ use Rattle.raid_steps.specs.State.{asking, Copy, Running, SiteState}
 use Rattle.raid_steps.specs.Copies.{copy_of}
 use Rattle.raid_steps.specs.Programs.{running_of}
 use Rattle.raid_steps.specs.World.{World, link}
+use Rattle.raid_moves.specs.Moves.{Given}
 use Rattle.raid_staged.specs.Staged.{history}
 use Rattle.raid_versions.specs.Versions.{IsLive, Along}
 use Rattle.raid_values.specs.Values.{committed_value}
@@ -59,6 +60,13 @@ abbrev pub GetWhatTheySaw : Workload → List Noted → List SiteState → List 
 GetWhatTheySaw w p sites links =
     (k : ℕ) (s : SiteState) (r : Running) (number : ℕ) (x : Item) (q : Option Site) → IsLive p sites k s → running_of s r.txn ≡ Some r → r.phase ≡ asking number x q → has_ended p r.txn ≡ false →
     IsAnsweredBySeen w p sites links (record { txn = r.txn; place = k; session = s.session; number = number; item = x })
+
+-- what the letter that a live site hears next from a server gives to a program there for its ask is what its transaction has seen
+abbrev pub GivesSeen : Workload → World → Type 0
+GivesSeen w state =
+    (k : ℕ) (s : SiteState) → IsLive (history state) state.servers.sites k s → (from : ℕ) (letter : Letter) (rest : List Letter) → link state.links (k + 2) from ≡ letter ∷ rest →
+    (r : Running) (number : ℕ) (x : Item) (q : Option Site) (v : ℤ) → running_of s r.txn ≡ Some r → r.phase ≡ asking number x q → has_ended (history state) r.txn ≡ false →
+    Given w s from letter r.txn number v → seen w (history state) r.txn x ≡ Some v
 
 abbrev pub ProgramsGetWhatTheySaw : Workload → World → Type 0
 ProgramsGetWhatTheySaw w state = GetWhatTheySaw w (history state) state.servers.sites state.links

@@ -13,7 +13,7 @@ ghost use Rattle.raid_legal.specs.Serial.{Each, IsCurrent};
 ghost use Rattle.raid_message.specs.declared.letter.Pick.{Pick};
 ghost use Rattle.raid_steps.specs.World.{run, report, is_idle};
 ghost use Rattle.raid_values.specs.Values.{CopiesAreCommitted, CopiesBecomeCurrent};
-ghost use Rattle.raid_values.specs.Gets.{ProgramsGetWhatTheySaw};
+ghost use Rattle.raid_values.specs.Gets.{ProgramsGetWhatTheySaw, GivesSeen};
 
 /// Whatever steps were taken: each copy of each site, up or not, and each copy on its way from a site to another, has the value that the Commit
 /// with its version gave the item, or the item's initial value at version 0.
@@ -37,7 +37,8 @@ pub fn idle_copies_are_current()
 
 /// Whatever steps were taken: where a program waits for an item, at a home that is up in its last session told, and its transaction isn't over, each
 /// value on its way for its ask is the one that the transaction has seen, which is the item's just before the Read; and where a copy is still
-/// to be read for it, the copy will then have that value.
+/// to be read for it, the copy will then have that value. So the value that it is given is the one that it has seen.
 pub fn programs_get_what_they_saw()
-    ensures { (w : Workload) (schedule : List Pick) → ProgramsGetWhatTheySaw w (run w schedule) }
+    ensures answers { (w : Workload) (schedule : List Pick) → ProgramsGetWhatTheySaw w (run w schedule) }
+    ensures given { (w : Workload) (schedule : List Pick) → GivesSeen w (run w schedule) }
 {}
