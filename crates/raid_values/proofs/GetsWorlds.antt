@@ -1,5 +1,5 @@
 -- Each step of the monitor and of the sequencer keeps what is on its way to answer an ask the value that the transaction has seen.
-use Rattle.std.proofs.Common.{◌≡◌, ◌≢◌, ◌⊎◌, inl, inr, ℕ, suc, ◌+◌, ◌-◌, ◌<◌, ◌≤◌, ◌==◌, nat_lt, Bool, true, false, ◌&&◌, List, [], ◌∷◌, ◌++◌, Option, Some, if◌then◌else◌, arith, sym, subst, ap, ◌∙◌, refl}
+use Rattle.std.proofs.Common.{◌≡◌, ◌≢◌, ◌⊎◌, inl, inr, ℕ, suc, ◌+◌, ◌-◌, ◌<◌, ◌≤◌, ◌==◌, Bool, true, false, ◌&&◌, List, [], ◌∷◌, ◌++◌, Option, Some, if◌then◌else◌, arith, sym, subst, ap, ◌∙◌, refl}
 use Rattle.std.specs.Prelude.{⊤, slice_get}
 use Rattle.std.specs.List.{AllByRecursion, list_any}
 use Rattle.std.proofs.lemmas.Bool.{and_from, eqb-true, true≢false}
@@ -57,7 +57,7 @@ use Rattle.raid_values.specs.Gets.{Ask, reads_for, ReadsSeen, BringsSeen, IsAnsw
 use Rattle.raid_values.specs.Values.{committed_value}
 use Rattle.raid_values.proofs.Claims.{IsNot, below_not, NoneReads, along_none, none_on, none_read, read_parts, Brought, brought_links, links_brought, none_answers}
 use Rattle.raid_values.proofs.Committed.{step_goes}
-use Rattle.raid_values.proofs.Pushes.{GoesOn, seen_push, version_value, version_within}
+use Rattle.raid_values.proofs.Pushes.{GoesOn, seen_push, version_value, version_within, positive}
 
 -- what isn't so in a later history wasn't in an earlier one
 earlier_not : (p q : List Noted) → ((test : Noted → Bool) → list_any test p ≡ true → list_any test q ≡ true) → (test : Noted → Bool) → list_any test q ≡ false → list_any test p ≡ false
@@ -66,9 +66,6 @@ earlier_not p q grows test none = go (list_any test p) refl
     go : (b : Bool) → list_any test p ≡ b → b ≡ false
     go true h = absurd (true≢false (sym (grows test h) ∙ none))
     go false h = refl
-
-positive : (n : ℕ) → nat_lt 0 n ≡ true → 0 < n
-positive n e = grind (arith, e)
 
 -- a letter that is answered by the message that it asks for
 own_ask : (t : Txn) (number : ℕ) (x : Item) → ask_of t (letters.ReadAsk t number x) ≡ letters.ReadAsk t number x ∷ []

@@ -1,5 +1,5 @@
 -- Where no letter is left, each copy that may be read has its item's final value and version.
-use Rattle.std.proofs.Common.{◌≡◌, inl, inr, ℕ, ℤ, zero, suc, ◌+◌, ◌<◌, ◌≤◌, ◌==◌, nat_lt, Bool, true, false, not, ◌&&◌, List, [], ◌∷◌, ◌++◌, length, map, Some, if◌then◌else◌, arith, sym, subst, ap, ◌∙◌, refl}
+use Rattle.std.proofs.Common.{◌≡◌, inl, inr, ℕ, ℤ, zero, suc, ◌+◌, ◌<◌, ◌≤◌, ◌==◌, Bool, true, false, not, ◌&&◌, List, [], ◌∷◌, ◌++◌, length, map, Some, if◌then◌else◌, arith, sym, subst, ap, ◌∙◌, refl}
 use Rattle.std.specs.Prelude.{flat_map, slice_get, slice_index_or}
 use Rattle.std.specs.List.{AllByRecursion, list_all}
 use Rattle.std.proofs.lemmas.Bool.{and_parts, eqb-true, true≢false, OnTrue_from}
@@ -17,7 +17,7 @@ use Rattle.raid_legal.specs.Serial.{Each, IsCurrent}
 use Rattle.raid_message.specs.declared.letter.Letter.{Letter}
 use Rattle.raid_message.specs.declared.letter.Pick.{Pick}
 use Rattle.raid_steps.specs.State.{Copy, SiteState}
-use Rattle.raid_steps.specs.World.{World, link, run, report, is_idle, copy_lines}
+use Rattle.raid_steps.specs.World.{World, link, run, is_idle, copy_lines}
 use Rattle.raid_steps.proofs.Parts.{number_known}
 use Rattle.raid_sessions.specs.Present.{told_session}
 use Rattle.raid_sessions.proofs.Agreed.{run_idle}
@@ -27,8 +27,9 @@ use Rattle.raid_letters.specs.Says.{is_held}
 use Rattle.raid_staged.proofs.Runs.{landed}
 use Rattle.raid_staged.proofs.Worlds.{all_given}
 use Rattle.raid_versions.specs.Versions.{IsLive}
-use Rattle.raid_values.specs.Values.{after_all, IsCurrentIn}
+use Rattle.raid_values.specs.Values.{after_all, IsCurrentIn, ToldCopiesAreCurrent}
 use Rattle.raid_values.proofs.Current.{become_current}
+use Rattle.raid_values.proofs.Pushes.{positive}
 use Rattle.raid_values.proofs.Items.{items_of, held_items, numbered, of_items, copies_held, runs_items}
 
 -- an empty link
@@ -101,9 +102,6 @@ module _ (w : Workload) (schedule : List Pick) (idle : is_idle (run w schedule) 
   told_live : (k : ℕ) (s : SiteState) → slice_get now.servers.sites k ≡ Some s → is_up w p (site (k + 1)) ≡ true → IsLive p now.servers.sites k s
   told_live k s at up = go s.up refl (run_idle w schedule idle k s at)
     where
-      positive : (n : ℕ) → nat_lt 0 n ≡ true → 0 < n
-      positive n q = grind (arith, q)
-
       some : 0 < told_session w now k
       some = positive (told_session w now k) up
 
@@ -138,7 +136,7 @@ module _ (w : Workload) (schedule : List Pick) (idle : is_idle (run w schedule) 
   abbrev Told : Copy → Type 0
   Told c = first_of c.item finals ≡ Some (value_of w p c.item)
 
-  pub idle_current : Each (IsCurrent w (noted (report w (run w schedule).servers).entries) (report w (run w schedule).servers).finals) (report w (run w schedule).servers).copies
+  pub idle_current : ToldCopiesAreCurrent w (run w schedule)
   idle_current = each_flat (IsCurrent w p finals) copy_lines now.servers.sites lines
     where
       lines : (k : ℕ) (s : SiteState) → slice_get now.servers.sites k ≡ Some s → Each (IsCurrent w p finals) (copy_lines s)

@@ -1,5 +1,5 @@
 -- What a history with one more entry says of values: of those that Commits gave, of the last one, and of what was seen.
-use Rattle.std.proofs.Common.{◌≡◌, ℕ, ℤ, ◌+◌, ◌<◌, ◌≤◌, ◌==◌, Bool, true, false, ◌&&◌, ◌||◌, List, [], ◌∷◌, ◌++◌, length, Some, None, unwrap_or, if◌then◌else◌, arith, sym, subst, ap, ◌∙◌, refl}
+use Rattle.std.proofs.Common.{◌≡◌, ℕ, ℤ, ◌+◌, ◌<◌, ◌≤◌, ◌==◌, nat_lt, Bool, true, false, ◌&&◌, ◌||◌, List, [], ◌∷◌, ◌++◌, length, Some, None, unwrap_or, if◌then◌else◌, arith, sym, subst, ap, ◌∙◌, refl}
 use Rattle.std.specs.List.{AllByRecursion, list_any}
 use Rattle.std.proofs.lemmas.Bool.{and_parts, eqb-true, true≢false}
 use Rattle.std.proofs.lemmas.List.Sums.{fold-append}
@@ -41,6 +41,9 @@ unheld_first x (p ∷ ps) q = go (p.0.0 == x.0) q (unheld_first x ps)
 -- numbers
 other_number : (a b : ℕ) → a < b → (b == a) ≡ false
 other_number a b q = grind (arith, q)
+
+pub positive : (n : ℕ) → nat_lt 0 n ≡ true → 0 < n
+positive n q = grind (arith, q)
 
 same_number : (a : ℕ) → (a == a) ≡ true
 same_number a = grind arith

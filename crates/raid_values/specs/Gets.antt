@@ -55,18 +55,20 @@ pub record IsAnsweredBySeen (w : Workload) (p : List Noted) (sites : List SiteSt
   -- what the site at a place has read, and sent to the home
   pub brought : (j : ℕ) → AllByRecursion (λ (l : Letter). BringsSeen w p a l.to l.message) (link links (a.place + 2) (j + 2))
 
--- programs get what they have seen: at each live home, for each program of a transaction that isn't over
+-- at each live home, for each program that waits for an item, and whose transaction isn't over
 abbrev pub GetWhatTheySaw : Workload → List Noted → List SiteState → List (List (List Letter)) → Type 0
 GetWhatTheySaw w p sites links =
     (k : ℕ) (s : SiteState) (r : Running) (number : ℕ) (x : Item) (q : Option Site) → IsLive p sites k s → running_of s r.txn ≡ Some r → r.phase ≡ asking number x q → has_ended p r.txn ≡ false →
     IsAnsweredBySeen w p sites links (record { txn = r.txn; place = k; session = s.session; number = number; item = x })
 
--- what the letter that a live site hears next from a server gives to a program there for its ask is what its transaction has seen
+-- so in a world
+abbrev pub ProgramsGetWhatTheySaw : Workload → World → Type 0
+ProgramsGetWhatTheySaw w state = GetWhatTheySaw w (history state) state.servers.sites state.links
+
+-- what the letter that a live site hears next from a server gives to a program there for its ask, if the program's transaction isn't over, is
+-- the value that the transaction has seen
 abbrev pub GivesSeen : Workload → World → Type 0
 GivesSeen w state =
     (k : ℕ) (s : SiteState) → IsLive (history state) state.servers.sites k s → (from : ℕ) (letter : Letter) (rest : List Letter) → link state.links (k + 2) from ≡ letter ∷ rest →
     (r : Running) (number : ℕ) (x : Item) (q : Option Site) (v : ℤ) → running_of s r.txn ≡ Some r → r.phase ≡ asking number x q → has_ended (history state) r.txn ≡ false →
     Given w s from letter r.txn number v → seen w (history state) r.txn x ≡ Some v
-
-abbrev pub ProgramsGetWhatTheySaw : Workload → World → Type 0
-ProgramsGetWhatTheySaw w state = GetWhatTheySaw w (history state) state.servers.sites state.links

@@ -12,12 +12,13 @@ use Rattle.raid_rules.specs.Entries.{writes_of}
 use Rattle.raid_rules.specs.History.{version}
 use Rattle.raid_rules.specs.Sessions.{is_copy_locked}
 use Rattle.raid_legal.specs.Seen.{value_of}
+use Rattle.raid_legal.specs.Serial.{Each, IsCurrent}
 use Rattle.raid_message.specs.declared.letter.Message.{Message}
 use Rattle.raid_message.specs.declared.letter.Message.TheVariants as letters
 use Rattle.raid_message.specs.declared.letter.Letter.{Letter}
 use Rattle.raid_steps.specs.State.{Copy, SiteState}
 use Rattle.raid_steps.specs.Copies.{staged_of, renewed}
-use Rattle.raid_steps.specs.World.{World, link}
+use Rattle.raid_steps.specs.World.{World, link, report}
 use Rattle.raid_staged.specs.Staged.{history}
 use Rattle.raid_versions.specs.Versions.{IsLive}
 
@@ -60,3 +61,7 @@ abbrev pub CopiesBecomeCurrent : Workload → World → Type 0
 CopiesBecomeCurrent w state =
     (k : ℕ) (s : SiteState) → IsLive (history state) state.servers.sites k s →
     AllByRecursion (λ (c : Copy). is_copy_locked (history state) (site (k + 1)) c.item ≡ false → IsCurrentIn w (history state) (after_all s c (link state.links (k + 2) 1))) s.copies
+
+-- what is told of the world's servers: each copy that may be read has its item's final value and version
+abbrev pub ToldCopiesAreCurrent : Workload → World → Type 0
+ToldCopiesAreCurrent w state = Each (IsCurrent w (history state) (report w state.servers).finals) (report w state.servers).copies

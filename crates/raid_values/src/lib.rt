@@ -8,11 +8,9 @@
 
 ghost use Rattle.std.specs.Prelude.{◌≡◌, true, List};
 ghost use Rattle.raid_workload.specs.declared.workload.Workload.{Workload};
-ghost use Rattle.raid_rules.specs.History.{noted};
-ghost use Rattle.raid_legal.specs.Serial.{Each, IsCurrent};
 ghost use Rattle.raid_message.specs.declared.letter.Pick.{Pick};
-ghost use Rattle.raid_steps.specs.World.{run, report, is_idle};
-ghost use Rattle.raid_values.specs.Values.{CopiesAreCommitted, CopiesBecomeCurrent};
+ghost use Rattle.raid_steps.specs.World.{run, is_idle};
+ghost use Rattle.raid_values.specs.Values.{CopiesAreCommitted, CopiesBecomeCurrent, ToldCopiesAreCurrent};
 ghost use Rattle.raid_values.specs.Gets.{ProgramsGetWhatTheySaw, GivesSeen};
 
 /// Whatever steps were taken: each copy of each site, up or not, and each copy on its way from a site to another, has the value that the Commit
@@ -32,7 +30,7 @@ pub fn live_copies_have_the_last_value()
 /// the Commit that wrote it.
 #[tactic(auto, using(crate::proofs::Idle::idle_current))]
 pub fn idle_copies_are_current()
-    ensures { (w : Workload) (schedule : List Pick) → is_idle (run w schedule) ≡ true → Each (IsCurrent w (noted (report w (run w schedule).servers).entries) (report w (run w schedule).servers).finals) (report w (run w schedule).servers).copies }
+    ensures { (w : Workload) (schedule : List Pick) → is_idle (run w schedule) ≡ true → ToldCopiesAreCurrent w (run w schedule) }
 {}
 
 /// Whatever steps were taken: where a program waits for an item, at a home that is up in its last session told, and its transaction isn't over, each

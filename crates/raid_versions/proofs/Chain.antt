@@ -1,8 +1,7 @@
 -- The sequencer's step keeps what copies have and get.
-use Rattle.std.proofs.Common.{◌≡◌, ◌≢◌, ◌⊎◌, inl, inr, ℕ, zero, suc, ◌+◌, ◌-◌, ◌<◌, ◌≤◌, ◌==◌, Bool, true, false, ◌||◌, List, [], ◌∷◌, ◌++◌, length, map, fold, Some, if◌then◌else◌, arith, sym, subst, ap, ◌∙◌, refl, append-nil}
-use Rattle.std.specs.Prelude.{⊤, slice_get}
+use Rattle.std.proofs.Common.{◌≡◌, ◌⊎◌, inl, inr, ℕ, zero, suc, ◌+◌, ◌-◌, ◌<◌, ◌≤◌, ◌==◌, Bool, true, false, ◌||◌, List, [], ◌∷◌, ◌++◌, length, map, fold, Some, if◌then◌else◌, arith, sym, subst, ap, ◌∙◌, refl, append-nil}
+use Rattle.std.specs.Prelude.{slice_get}
 use Rattle.std.specs.List.{AllByRecursion}
-use Rattle.std.proofs.lemmas.Bool.{eqb-true}
 use Rattle.std.proofs.lemmas.List.Sums.{fold-append}
 use Rattle.raid_base.specs.declared.names.Txn.{Txn}
 use Rattle.raid_base.specs.declared.names.Site.{Site}
@@ -13,7 +12,6 @@ use Rattle.raid_base.specs.Names.{is_site, has_site}
 use Rattle.raid_base.specs.Sites.{session, site}
 use Rattle.raid_workload.specs.declared.workload.Workload.{Workload}
 use Rattle.raid_workload.specs.Parts.{count_from}
-use Rattle.raid_workload.specs.Parts as workload
 use Rattle.raid_rules.specs.History.{noted, add, next}
 use Rattle.raid_rules.specs.Sessions.{last_session, owes, turn_vector, turn_last}
 use Rattle.raid_rules.proofs.Push.{noted_push, vector_push}
@@ -21,7 +19,7 @@ use Rattle.raid_legal.specs.Seen.{vector}
 use Rattle.raid_message.specs.declared.letter.Message.{Message}
 use Rattle.raid_message.specs.declared.letter.Message.TheVariants as letters
 use Rattle.raid_message.specs.declared.letter.Letter.{Letter}
-use Rattle.raid_steps.specs.State.{Out, Turn, Sequencer, SiteState, opened}
+use Rattle.raid_steps.specs.State.{Turn, Sequencer, SiteState, opened}
 use Rattle.raid_steps.specs.Fits.{knows_site}
 use Rattle.raid_steps.specs.Sequencer as rows
 use Rattle.raid_steps.specs.Sequencer.{so_far, place, is_hello, hear_sequencer}
@@ -30,16 +28,16 @@ use Rattle.raid_steps.proofs.Parts.{number_known}
 use Rattle.raid_sessions.proofs.Agreed.{front_asked, told_follows, told_up}
 use Rattle.raid_sessions.proofs.Holds.{last_of, IsHeard}
 use Rattle.raid_sessions.proofs.Ledger.{session_set}
-use Rattle.raid_sessions.proofs.Lists.{all_weaken, get_below, get_known, set_long}
+use Rattle.raid_sessions.proofs.Lists.{all_weaken, get_below, get_known}
 use Rattle.raid_sessions.proofs.Mail.{same_or_not, moved, set_square, set_here, set_server}
 use Rattle.raid_sessions.proofs.Reached.{Reached, from_below, front_reached}
 use Rattle.raid_letters.specs.Says.{NoteSays}
-use Rattle.raid_letters.proofs.Runs.{LetterSays}
-use Rattle.raid_versions.specs.Versions.{IsLive, Along, IsKeptUp, ApplyOwed, Told, LastVersions, HaveLastVersions}
+use Rattle.raid_letters.proofs.Sends.{same_site}
+use Rattle.raid_versions.specs.Versions.{IsLive, IsKeptUp, ApplyOwed, Told, LastVersions, HaveLastVersions}
 use Rattle.raid_versions.proofs.Entries.{placed_mid}
 use Rattle.raid_versions.proofs.Grown.{was, Grows, grown}
 use Rattle.raid_versions.proofs.Links.{all_alike}
-use Rattle.raid_versions.proofs.Mid.{ApplySays, Stands, Mid, Alive, IsTold, last_push, stand_now}
+use Rattle.raid_versions.proofs.Mid.{ApplySays, Stands, Mid, Alive, IsTold, last_push, sized_push, stand_now}
 use Rattle.raid_versions.proofs.Owed.{HoldsOwn, Known}
 use Rattle.raid_versions.proofs.Renewing.{sent_mid, due_goes, count_goes}
 use Rattle.raid_versions.proofs.Sent.{set_others}
@@ -89,11 +87,8 @@ module _ (w : Workload) where
         down true = (omega arith, (λ none. inl (refl, refl)))
         down false = (omega arith, (λ none. inl (none, refl)))
 
-        same_site : (a b : Site) → is_site a b ≡ true → a ≡ b
-        same_site a b r = ap (λ n. let z : Site = record { 0 = n } in z) (sym (eqb-true b.0 a.0 r))
-
         up : (b : Bool) (n : ℕ) (r : Site) → is_site s r ≡ b → last_session p r < n → Falls p s (if b then n else session (vector w p) s) (if b then n else last_session p s)
-        up true n r is more = (let same = ap (last_session p) (same_site s r is) in (omega (arith, same, more), (λ none. inr (omega (arith, same, more)))))
+        up true n r is more = (let same = ap (last_session p) (sym (same_site s r is)) in (omega (arith, same, more), (λ none. inr (omega (arith, same, more)))))
         up false n r is more = (omega arith, (λ none. inl (none, refl)))
 
         go : (e : Entry) → Why w from letter first p e → Falls p s (session (turn_vector (vector w p) e) s) (turn_last s (last_session p s) e)
@@ -101,21 +96,13 @@ module _ (w : Workload) where
         go (Up r n) y = subst (λ z. Falls p s z (if is_site s r then n else last_session p s)) (sym (session_set w (vector w p) r s n sized y.0 known)) (up (is_site s r) n r refl y.1)
         go other y = (omega arith, (λ none. inl (none, refl)))
 
-    sized_push : (p : List Noted) (e : Entry) → length (vector w p) ≡ w.sites → length (vector w (add p e)) ≡ w.sites
-    sized_push p e sized = ap length (vector_push w.sites p (next p e)) ∙ go e
-      where
-        go : (e : Entry) → length (turn_vector (vector w p) e) ≡ w.sites
-        go (Down r) = set_long (vector w p) (r.0 - 1) 0 ∙ sized
-        go (Up r n) = set_long (vector w p) (r.0 - 1) n ∙ sized
-        go other = sized
-
     -- along the step
     steps_fall : (a b : Turn Sequencer) → Steps w from letter first a b → length (vector w (so_far a)) ≡ w.sites → (s : Site) → knows_site w s ≡ true → Fall (so_far a) (so_far b) s
     steps_fall a b done sized s known = same_fall (so_far a) s
     steps_fall a b (placed ask e p goes why rest) sized s known =
         let now = so_far (place w ask a e) in
         fall_on (so_far a) now (so_far b) s (subst (λ z. Fall (so_far a) z s) (sym (noted_push a.state.history e)) (one_fall (so_far a) e sized why s known))
-        (steps_fall (place w ask a e) b rest (subst (λ z. length (vector w z) ≡ w.sites) (sym (noted_push a.state.history e)) (sized_push (so_far a) e sized)) s known)
+        (steps_fall (place w ask a e) b rest (subst (λ z. length (vector w z) ≡ w.sites) (sym (noted_push a.state.history e)) (sized_push w (so_far a) e sized)) s known)
     steps_fall a b (renews {next = next} due same more all rest) sized s known = subst (λ h. Fall (noted h) (so_far b) s) same (steps_fall next b rest (subst (λ h. length (vector w (noted h)) ≡ w.sites) (sym same) sized) s known)
     steps_fall a b (counts {next = next} n same more rest) sized s known = subst (λ h. Fall (noted h) (so_far b) s) same (steps_fall next b rest (subst (λ h. length (vector w (noted h)) ≡ w.sites) (sym same) sized) s known)
     steps_fall a b (passes {next = next} same more rest) sized s known = subst (λ h. Fall (noted h) (so_far b) s) same (steps_fall next b rest (subst (λ h. length (vector w (noted h)) ≡ w.sites) (sym same) sized) s known)
@@ -153,7 +140,7 @@ module _ (w : Workload) where
           h = a.state.history
 
           fall_after : (s : Site) → knows_site w s ≡ true → Fall (add (so_far a) e) (so_far b) s
-          fall_after s known = subst (λ z. Fall z (so_far b) s) (noted_push h e) (steps_fall (place w ask a e) b rest (subst (λ z. length (vector w z) ≡ w.sites) (sym (noted_push h e)) (sized_push (so_far a) e mid.vectors)) s known)
+          fall_after s known = subst (λ z. Fall z (so_far b) s) (noted_push h e) (steps_fall (place w ask a e) b rest (subst (λ z. length (vector w z) ≡ w.sites) (sym (noted_push h e)) (sized_push w (so_far a) e mid.vectors)) s known)
 
           fall_before : (s : Site) → knows_site w s ≡ true → Fall (so_far a) (so_far b) s
           fall_before s known = fall_on (so_far a) (add (so_far a) e) (so_far b) s (one_fall (so_far a) e mid.vectors why s known) (fall_after s known)

@@ -1,8 +1,8 @@
 -- Each entry that the sequencer places keeps what copies have and get.
-use Rattle.std.proofs.Common.{◌≡◌, ◌⊎◌, inl, inr, ℕ, ◌+◌, ◌<◌, ◌≤◌, ◌==◌, nat_lt, Bool, true, false, not, ◌&&◌, ◌||◌, List, [], ◌∷◌, ◌++◌, length, fold, Option, Some, None, if◌then◌else◌, arith, sym, subst, ap, ◌∙◌, refl}
+use Rattle.std.proofs.Common.{◌≡◌, ◌⊎◌, inl, inr, ℕ, ◌+◌, ◌<◌, ◌≤◌, ◌==◌, nat_lt, Bool, true, false, not, ◌&&◌, ◌||◌, List, ◌++◌, length, Some, if◌then◌else◌, arith, sym, subst, ap, ◌∙◌, refl}
 use Rattle.std.specs.Prelude.{⊤, slice_get}
 use Rattle.std.specs.List.{AllByRecursion}
-use Rattle.std.proofs.lemmas.Bool.{and_parts, and_from, eqb-true, true≢false}
+use Rattle.std.proofs.lemmas.Bool.{and_parts, and_from, true≢false}
 use Rattle.raid_base.specs.declared.names.Txn.{Txn}
 use Rattle.raid_base.specs.declared.names.Item.{Item}
 use Rattle.raid_base.specs.declared.names.Site.{Site}
@@ -16,14 +16,14 @@ use Rattle.raid_workload.specs.declared.workload.Workload.{Workload}
 use Rattle.raid_workload.specs.Parts.{home}
 use Rattle.raid_workload.specs.Parts as workload
 use Rattle.raid_rules.specs.Entries.{writes_of, writes_item, is_commit}
-use Rattle.raid_rules.specs.History.{noted, add, next, has_committed, version}
-use Rattle.raid_rules.specs.Sessions.{last_session, owes, owes_for, turn_owed, turn_lock, turn_vector, is_copy_locked}
+use Rattle.raid_rules.specs.History.{noted, add, next, version}
+use Rattle.raid_rules.specs.Sessions.{owes, owes_for, turn_owed, turn_lock, turn_vector, is_copy_locked}
 use Rattle.raid_rules.proofs.Push.{is_copy_locked_push, vector_push, same_txn}
-use Rattle.raid_legal.specs.Seen.{vector, is_up, up_holders}
+use Rattle.raid_legal.specs.Seen.{vector, is_up}
 use Rattle.raid_message.specs.declared.letter.Message.{Message}
 use Rattle.raid_message.specs.declared.letter.Message.TheVariants as letters
 use Rattle.raid_message.specs.declared.letter.Letter.{Letter}
-use Rattle.raid_steps.specs.State.{Out, Copy, SiteState, to_site}
+use Rattle.raid_steps.specs.State.{Out, Copy, SiteState}
 use Rattle.raid_steps.specs.Copies.{copy_of}
 use Rattle.raid_steps.specs.Fits.{knows_site}
 use Rattle.raid_steps.specs.Sequencer as rows
@@ -32,20 +32,22 @@ use Rattle.raid_placed.specs.Placed.{Placed, Placeable}
 use Rattle.raid_sessions.proofs.Ledger.{session_set}
 use Rattle.raid_sessions.proofs.Lists.{all_append, all_weaken, same_self}
 use Rattle.raid_sessions.proofs.Mail.{letters_to}
-use Rattle.raid_asks.proofs.Facts.{or_left, or_right, or_parts, any_weaken}
+use Rattle.raid_asks.proofs.Facts.{or_right, any_weaken}
 use Rattle.raid_asks.proofs.Notes.{all_sent}
 use Rattle.raid_letters.specs.Says.{is_held, is_applied}
+use Rattle.raid_letters.proofs.Sends.{same_site}
 use Rattle.raid_moves.proofs.Places.{all_both}
-use Rattle.raid_versions.specs.Versions.{was_written, was_written_by, IsVersion, OwesLast, IsLive, is_pending, latest, NonePending, NoGap, reads_copy, Along, ReadsWhole, IsKeptUp, ApplyOwed, AckTold, CopyTold, Told, Sends, LastVersions}
+use Rattle.raid_versions.specs.Versions.{was_written, was_written_by, IsVersion, OwesLast, IsLive, is_pending, latest, NonePending, NoGap, Along, ReadsWhole, IsKeptUp, ApplyOwed, AckTold, CopyTold, Told, Sends}
 use Rattle.raid_versions.proofs.Copied.{held_copied, copied_held}
-use Rattle.raid_versions.proofs.Grown.{kept_more, kept_commit, kept_risen, Was, was, risen, Grows, Owes, grown}
+use Rattle.raid_versions.proofs.Grown.{kept_more, kept_commit, kept_risen, Was, was, risen, grown}
 use Rattle.raid_versions.proofs.Links.{IsUnread, AreUnread, IsUnapplied, AreUnapplied, ApplyOnly, along_unread, unread, pending_only, latest_off, latest_alike, latest_quiet, all_alike}
 use Rattle.raid_versions.proofs.Mid.{ApplySays, Mid, Alive, IsTold, owes_now, version_now, after, inside, known, stand_now, live_now, grows_now, only_now, mid_now}
 use Rattle.raid_versions.proofs.Owed.{HoldsOwn}
-use Rattle.raid_versions.proofs.Placing.{commit_whole, read_source, up_was_down, clear_locked, up_holder, held_some, applied_held}
+use Rattle.raid_versions.proofs.Placing.{commit_whole, read_source, clear_locked, up_holder, held_some, applied_held}
+use Rattle.raid_versions.proofs.SiteCopies.{same_item}
 use Rattle.raid_versions.proofs.Sent.{place_is, along_each, along_any, each_pending, SendsOf, sends_of, apply_pending}
 use Rattle.raid_versions.proofs.Steps.{Why, source_unlocked}
-use Rattle.raid_versions.proofs.Written.{at_number, at_parts, at_kept, at_last, at_same, numbered, version_is, version_most, version_within, version_long, written_by, long_push}
+use Rattle.raid_versions.proofs.Written.{at_number, at_parts, at_kept, at_last, at_same, numbered, version_most, version_within, version_long, written_by, long_push}
 
 -- an entry that is no Read, and one that is no Commit
 abbrev IsNoRead : Entry → Type 0
@@ -70,12 +72,6 @@ module _ (w : Workload) (sites : List SiteState) (long : length sites ≡ w.site
 
   abbrev notes : ℕ → List Letter
   notes k = link links (k + 2) 1
-
-  same_site : (a b : Site) → is_site a b ≡ true → a ≡ b
-  same_site a b r = ap (λ n. let z : Site = record { 0 = n } in z) (sym (eqb-true b.0 a.0 r))
-
-  same_item : (x y : Item) → is_item x y ≡ true → x ≡ y
-  same_item x y r = ap (λ n. let z : Item = record { 0 = n } in z) (sym (eqb-true y.0 x.0 r))
 
   same_place : (k j : ℕ) → site (k + 1) ≡ site (j + 1) → k ≡ j
   same_place k j r = (let e = ap (λ (s : Site). s.0) r in omega (arith, e))
@@ -117,9 +113,9 @@ module _ (w : Workload) (sites : List SiteState) (long : length sites ≡ w.site
       | inr o ↦ elim (keeps o.txn o.owed o.wrote) [
         | inl same ↦ inl (same ∙ sym now)
         | inr owed ↦ inr (record {
-            txn = o.txn;
-            wrote = subst (λ n. was_written_by q o.txn x n ≡ true) (sym now) (at_kept (writes_item o.txn x) p e (version p x) o.wrote);
-            owed = owes_now p e here o.txn ∙ ap (λ b. turn_owed here o.txn b e) o.owed ∙ ap (turn_owed here o.txn true) is ∙ owed;
+          txn = o.txn;
+          wrote = subst (λ n. was_written_by q o.txn x n ≡ true) (sym now) (at_kept (writes_item o.txn x) p e (version p x) o.wrote);
+          owed = owes_now p e here o.txn ∙ ap (λ b. turn_owed here o.txn b e) o.owed ∙ ap (turn_owed here o.txn true) is ∙ owed;
         })
       ]
     ]
@@ -159,7 +155,7 @@ module _ (w : Workload) (sites : List SiteState) (long : length sites ≡ w.site
                 go : (b : Bool) → (is_txn u t && is_site here r) ≡ b → (c.version ≡ version p x) ⊎ (not b ≡ true)
                 go true is =
                     let both = and_parts (is_txn u t) (is_site here r) is in
-                    let a = acked t r y k s at (same_site here r both.1) in
+                    let a = acked t r y k s at (sym (same_site here r both.1)) in
                     let most = a.within x c (version p x) has (subst (λ z. was_written_by p z x (version p x) ≡ true) (sym (same_txn t u both.0)) wrote) in
                     let least = version_within h x c.version is_version in
                     inl (omega (arith, most, least))
@@ -196,8 +192,8 @@ module _ (w : Workload) (sites : List SiteState) (long : length sites ≡ w.site
             split : (a : Bool) → is_copy_locked p here x ≡ a → (b : Bool) → (is_site here r && is_item x y) ≡ b → (a && not b) ≡ false → IsFit q
             split true qa true qb f =
                 let both = and_parts (is_site here r) (is_item x y) qb in
-                let item = same_item x y both.1 in
-                let most : v ≤ c.version = copied r y v told_why k s at (same_site here r both.0) c (subst (λ z. copy_of s z ≡ Some c) item has) in
+                let item = sym (same_item x y both.1) in
+                let most : v ≤ c.version = copied r y v told_why k s at (sym (same_site here r both.0)) c (subst (λ z. copy_of s z ≡ Some c) item has) in
                 let now = (clear_locked w p r y v g).1 ∙ ap (version p) (sym item) in
                 let least = version_within h x c.version is_version in
                 let same : c.version ≡ version p x = omega (arith, most, now, least) in
@@ -337,7 +333,7 @@ module _ (w : Workload) (sites : List SiteState) (long : length sites ≡ w.site
         whole : AllByRecursion (λ (l : Letter). (behind : List Letter) → ReadsWhole q x s.session (latest q x s.session c.version (notes k)) l.message behind) (new k)
         whole = all_sent (λ (l : Letter). (behind : List Letter) → ReadsWhole q x s.session (latest q x s.session c.version (notes k)) l.message behind) (k + 2) 0 clock outs
             (sent IsFull (
-              (λ of behind it. full (subst (λ z. is_copy_locked p z x ≡ false) (place_is r k of) (subst (λ z. is_copy_locked p r z ≡ false) (sym (same_item x y it)) source)) behind),
+              (λ of behind it. full (subst (λ z. is_copy_locked p z x ≡ false) (place_is r k of) (subst (λ z. is_copy_locked p r z ≡ false) (same_item x y it) source)) behind),
               (λ of behind it. absurd (true≢false (sym it))),
             ))
 
@@ -396,12 +392,12 @@ module _ (w : Workload) (sites : List SiteState) (long : length sites ≡ w.site
             both = and_parts (is_site (site (k + 1)) r) (is_item x y) it
 
             was_locked : is_copy_locked p (site (k + 1)) x ≡ true
-            was_locked = subst (λ z. is_copy_locked p z x ≡ true) (sym (same_site (site (k + 1)) r both.0)) (subst (λ z. is_copy_locked p r z ≡ true) (sym (same_item x y both.1)) (clear_locked w p r y v (subst (Placeable w p) is goes)).0)
+            was_locked = subst (λ z. is_copy_locked p z x ≡ true) (same_site (site (k + 1)) r both.0) (subst (λ z. is_copy_locked p r z ≡ true) (same_item x y both.1) (clear_locked w p r y v (subst (Placeable w p) is goes)).0)
 
             current : latest p x s.session c.version (notes k) ≡ version p x
             current =
-                let most : v ≤ c.version = copied r y v (subst (Why w from letter first p) is why) k s live.at (same_site (site (k + 1)) r both.0) c (subst (λ z. copy_of s z ≡ Some c) (same_item x y both.1) has) in
-                let now = (clear_locked w p r y v (subst (Placeable w p) is goes)).1 ∙ ap (version p) (sym (same_item x y both.1)) in
+                let most : v ≤ c.version = copied r y v (subst (Why w from letter first p) is why) k s live.at (sym (same_site (site (k + 1)) r both.0)) c (subst (λ z. copy_of s z ≡ Some c) (sym (same_item x y both.1)) has) in
+                let now = (clear_locked w p r y v (subst (Placeable w p) is goes)).1 ∙ ap (version p) (same_item x y both.1) in
                 let least = version_within h x c.version was_version in
                 let same_one : c.version ≡ version p x = omega (arith, most, now, least) in
                 latest_quiet p x s.session c.version (notes k) (old.locked was_locked) ∙ same_one
@@ -471,7 +467,7 @@ module _ (w : Workload) (sites : List SiteState) (long : length sites ≡ w.site
       acking : (u : Txn) (r : Site) → e ≡ Ack u r → (b : Bool) → (is_txn t u && is_site (site (k + 1)) r) ≡ b → not b ≡ true
       acking u r is true it =
           let both = and_parts (is_txn t u) (is_site (site (k + 1)) r) it in
-          let a = acked u r (subst (Why w from letter first p) is why) k s live.at (same_site (site (k + 1)) r both.1) in
+          let a = acked u r (subst (Why w from letter first p) is why) k s live.at (sym (same_site (site (k + 1)) r both.1)) in
           let f = applied_held w h placed t (site (k + 1)) n was_applied in
           let own = has_copy k s live.at f.0 f.1.1 in
           let most = a.within f.0 own.0 n own.1 (subst (λ z. was_written_by p z f.0 n ≡ true) (sym (same_txn u t both.0)) f.1.0) in

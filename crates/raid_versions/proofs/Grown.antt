@@ -1,5 +1,5 @@
 -- A step of the sequencer, one part of it or none, and what it owes for copies to have the last versions after it.
-use Rattle.std.proofs.Common.{◌≡◌, ◌⊎◌, inl, inr, ℕ, ◌+◌, ◌<◌, ◌==◌, Bool, true, false, ◌||◌, List, [], ◌∷◌, ◌++◌, Some, arith, sym, subst, ap, ◌∙◌, refl}
+use Rattle.std.proofs.Common.{◌≡◌, ◌⊎◌, inl, inr, ℕ, ◌+◌, ◌<◌, ◌==◌, true, false, List, ◌∷◌, ◌++◌, Some, arith, sym, subst, ap, ◌∙◌}
 use Rattle.std.specs.Prelude.{slice_get}
 use Rattle.std.specs.List.{AllByRecursion}
 use Rattle.std.proofs.lemmas.Bool.{true≢false}
@@ -7,7 +7,6 @@ use Rattle.raid_base.specs.declared.names.Txn.{Txn}
 use Rattle.raid_base.specs.declared.names.Item.{Item}
 use Rattle.raid_base.specs.declared.names.Site.{Site}
 use Rattle.raid_base.specs.declared.entry.Noted.{Noted}
-use Rattle.raid_base.specs.Names.{is_item}
 use Rattle.raid_base.specs.Sites.{site}
 use Rattle.raid_rules.specs.History.{has_committed, version}
 use Rattle.raid_rules.specs.Sessions.{owes, is_copy_locked}
@@ -19,8 +18,8 @@ use Rattle.raid_steps.specs.Copies.{copy_of}
 use Rattle.raid_steps.specs.World.{link}
 use Rattle.raid_sessions.proofs.Lists.{all_weaken}
 use Rattle.raid_asks.proofs.Facts.{or_left, or_right}
-use Rattle.raid_versions.specs.Versions.{was_written, was_written_by, IsVersion, OwesLast, IsLive, is_pending, latest, AreAbove, NonePending, NoGap, reads_copy, Along, ReadsWhole, IsKeptUp, ApplyOwed, AckTold, Told, AboveAt, Brings, Sends, LastVersions}
-use Rattle.raid_versions.proofs.Links.{pending_on, pending_parts, latest_on, AreAlike, all_alike, pending_alike, latest_alike, along_on, IsUnread, AreUnread, ApplyOnly, AreUnapplied, along_unread, unread, pending_none, latest_none, pending_only, latest_now, AreForOthers, pending_others, latest_others, along_others}
+use Rattle.raid_versions.specs.Versions.{was_written, was_written_by, IsVersion, OwesLast, IsLive, is_pending, latest, NonePending, Along, ReadsWhole, IsKeptUp, ApplyOwed, Told, AboveAt, Brings, Sends, LastVersions}
+use Rattle.raid_versions.proofs.Links.{pending_on, pending_parts, latest_on, AreAlike, all_alike, pending_alike, latest_alike, along_on, AreUnread, ApplyOnly, AreUnapplied, along_unread, unread, pending_none, latest_none, pending_only, latest_now, AreForOthers, pending_others, latest_others, along_others}
 
 -- a copy at a live site, with more letters behind
 module _ (p q : List Noted) (here : Site) (x : Item) (m v : ℕ) (notes ys : List Letter) where

@@ -2,13 +2,13 @@
 use Rattle.std.proofs.Common.{◌≡◌, ◌⊎◌, inl, inr, ℕ, ◌+◌, ◌-◌, ◌<◌, ◌≤◌, ◌==◌, nat_lt, Bool, true, false, not, ◌&&◌, ◌||◌, List, [], ◌∷◌, ◌++◌, length, fold, Some, if◌then◌else◌, arith, sym, subst, ap, ◌∙◌, refl}
 use Rattle.std.specs.Prelude.{⊤, slice_get}
 use Rattle.std.specs.List.{AllByRecursion}
-use Rattle.std.proofs.lemmas.Bool.{and_parts, eqb-true, true≢false}
+use Rattle.std.proofs.lemmas.Bool.{and_parts, true≢false}
 use Rattle.std.proofs.lemmas.List.Sums.{fold-append}
 use Rattle.raid_base.specs.declared.names.Txn.{Txn}
 use Rattle.raid_base.specs.declared.names.Item.{Item}
 use Rattle.raid_base.specs.declared.names.Site.{Site}
 use Rattle.raid_base.specs.declared.entry.Entry.{Entry}
-use Rattle.raid_base.specs.declared.entry.Entry.TheVariants.{Read, Commit, Abort, Ack, Down, Up, Clear}
+use Rattle.raid_base.specs.declared.entry.Entry.TheVariants.{Read, Commit, Abort, Ack, Down, Up}
 use Rattle.raid_base.specs.declared.entry.Noted.{Noted}
 use Rattle.raid_base.specs.Names.{is_txn, is_site, has_site, holds}
 use Rattle.raid_base.specs.Sites.{session, site}
@@ -16,7 +16,7 @@ use Rattle.raid_workload.specs.declared.workload.Workload.{Workload}
 use Rattle.raid_workload.specs.Parts.{home}
 use Rattle.raid_rules.specs.Entries.{writes_of, writes_item, is_commit_of}
 use Rattle.raid_rules.specs.History.{noted, add, next, has_committed, has_ended, version}
-use Rattle.raid_rules.specs.Sessions.{last_session, owes, turn_owed, turn_vector, turn_last, is_site_up}
+use Rattle.raid_rules.specs.Sessions.{last_session, owes, turn_owed, turn_vector, turn_last}
 use Rattle.raid_rules.proofs.Push.{vector_push, owes_push, number_of_push, same_txn}
 use Rattle.raid_legal.specs.Seen.{vector, is_up}
 use Rattle.raid_message.specs.declared.letter.Message.{Message}
@@ -27,22 +27,22 @@ use Rattle.raid_steps.specs.Fits.{knows_site}
 use Rattle.raid_steps.specs.Sequencer as rows
 use Rattle.raid_steps.specs.World.{link, post}
 use Rattle.raid_steps.proofs.Parts.{number_known}
-use Rattle.raid_placed.specs.Placed.{Placed, Placeable}
+use Rattle.raid_placed.specs.Placed.{Placeable}
 use Rattle.raid_sessions.proofs.Ledger.{session_set}
 use Rattle.raid_sessions.proofs.Lists.{all_append, all_weaken, get_below, set_long}
 use Rattle.raid_sessions.proofs.Mail.{AreSquare, letter_of, letters_to, posts_here, posts_square}
 use Rattle.raid_asks.proofs.Facts.{or_parts}
 use Rattle.raid_asks.proofs.Notes.{all_sent}
 use Rattle.raid_letters.specs.Says.{is_applied}
+use Rattle.raid_letters.proofs.Sends.{same_site}
 use Rattle.raid_layers.proofs.Histories.{any_kept, committed_ended}
-use Rattle.raid_versions.specs.Versions.{was_written, was_written_by, IsVersion, IsLive, LastVersions, Told}
+use Rattle.raid_versions.specs.Versions.{was_written_by, IsLive, LastVersions, Told}
 use Rattle.raid_versions.proofs.Grown.{Was, was, risen, Grows}
-use Rattle.raid_versions.proofs.Links.{IsAlike, AreAlike, IsUnread, AreUnread, IsUnapplied, AreUnapplied, AppliesOnly, ApplyOnly, AreForOthers}
-use Rattle.raid_versions.proofs.Owed.{HoldsOwn}
+use Rattle.raid_versions.proofs.Links.{IsAlike, AreAlike, IsUnread, IsUnapplied, AppliesOnly, ApplyOnly, AreForOthers}
 use Rattle.raid_versions.proofs.Placing.{commit_whole, commit_runs, holder_up, up_was_down}
 use Rattle.raid_versions.proofs.Sent.{posts_others, place_is, SendsOf, sends_of}
 use Rattle.raid_versions.proofs.Steps.{Why}
-use Rattle.raid_versions.proofs.Written.{at_number, at_push, at_parts, at_kept, at_last, at_same, numbered, version_long, long_push}
+use Rattle.raid_versions.proofs.Written.{at_number, at_push, at_parts, at_kept, at_last, numbered, version_long, long_push}
 
 -- what is to be applied at a site was applied there
 abbrev pub ApplySays : List Noted → Site → Message → Type 0
@@ -81,6 +81,15 @@ owes_now p e s t = owes_push p (next p e) s t
 
 pub version_now : (p : List Noted) (e : Entry) (x : Item) → version (add p e) x ≡ (if holds x (writes_of e) then length p + 1 else version p x)
 version_now p e x = number_of_push (λ e. holds x (writes_of e)) p (next p e)
+
+-- each site keeps its place in the vector
+pub sized_push : (w : Workload) (p : List Noted) (e : Entry) → length (vector w p) ≡ w.sites → length (vector w (add p e)) ≡ w.sites
+sized_push w p e sized = ap length (vector_push w.sites p (next p e)) ∙ go e
+  where
+    go : (e : Entry) → length (turn_vector (vector w p) e) ≡ w.sites
+    go (Down r) = set_long (vector w p) (r.0 - 1) 0 ∙ sized
+    go (Up r n) = set_long (vector w p) (r.0 - 1) n ∙ sized
+    go other = sized
 
 -- with a new number, what was written stays
 pub old_number : (test : Entry → Bool) (p : List Noted) (e : Entry) (n : ℕ) → n ≤ length p → at_number test (add p e) n ≡ at_number test p n
@@ -124,9 +133,6 @@ module _ (w : Workload) (sites : List SiteState) (long : length sites ≡ w.site
   vector_now : vector w q ≡ turn_vector (vector w p) e
   vector_now = vector_push w.sites p (next p e)
 
-  no_site : (a b : Site) → is_site a b ≡ true → a ≡ b
-  no_site a b r = ap (λ n. let z : Site = record { 0 = n } in z) (sym (eqb-true b.0 a.0 r))
-
   pub stand_now : (k : ℕ) → k < w.sites → Stands (session (vector w q) (site (k + 1))) (last_session q (site (k + 1)))
   stand_now k low =
       subst (λ z. Stands z (last_session q (site (k + 1)))) (sym (ap (λ v. session v (site (k + 1))) vector_now))
@@ -149,19 +155,14 @@ module _ (w : Workload) (sites : List SiteState) (long : length sites ≡ w.site
       go other y = old
 
   vectors_now : length (vector w q) ≡ w.sites
-  vectors_now = ap length vector_now ∙ go e
-    where
-      go : (e : Entry) → length (turn_vector (vector w p) e) ≡ w.sites
-      go (Down r) = set_long (vector w p) (r.0 - 1) 0 ∙ mid.vectors
-      go (Up r n) = set_long (vector w p) (r.0 - 1) n ∙ mid.vectors
-      go other = mid.vectors
+  vectors_now = sized_push w p e mid.vectors
 
   -- no last session falls
   pub last_grows : (k : ℕ) → k < w.sites → last_session p (site (k + 1)) ≤ last_session q (site (k + 1))
   last_grows k low = subst (λ z. last_session p (site (k + 1)) ≤ z) (sym (last_push p e (site (k + 1)))) (go e why)
     where
       rise : (b : Bool) (n : ℕ) (r : Site) → is_site (site (k + 1)) r ≡ b → last_session p r < n → last_session p (site (k + 1)) ≤ (if b then n else last_session p (site (k + 1)))
-      rise true n r is more = (let same = ap (last_session p) (no_site (site (k + 1)) r is) in omega (arith, same, more))
+      rise true n r is more = (let same = ap (last_session p) (sym (same_site (site (k + 1)) r is)) in omega (arith, same, more))
       rise false n r is more = omega arith
 
       go : (e : Entry) → Why w from letter first p e → last_session p (site (k + 1)) ≤ turn_last (site (k + 1)) (last_session p (site (k + 1))) e
@@ -312,7 +313,7 @@ module _ (w : Workload) (sites : List SiteState) (long : length sites ≡ w.site
       sent Q R each r n is of = all_sent R (k + 2) 0 clock outs (all_weaken Q (λ (out : Out). out.0 ≡ k + 2 → R (letter_of 0 clock out)) outs (λ out h to. each out h) (sends_of w q ask Q e (subst (SendsOf w q ask Q) (sym is) of)))
 
       rise : (b : Bool) (n : ℕ) (r : Site) → e ≡ Up r n → is_site (site (k + 1)) r ≡ b → last_session p r < n → (if b then n else last_session p (site (k + 1))) ≡ s.session → Was w.sites p q (length p + 1) sites links after new k s
-      rise true n r it is more same = risen (others n (subst (λ z. last_session p z < n) (sym (no_site (site (k + 1)) r is)) more) same) (owing r n it (no_site (site (k + 1)) r is))
+      rise true n r it is more same = risen (others n (subst (λ z. last_session p z < n) (same_site (site (k + 1)) r is) more) same) (owing r n it (sym (same_site (site (k + 1)) r is)))
           (sent (λ (out : Out). IsUnapplied out.2) (λ (l : Letter). IsUnapplied l.message) (λ out h. h) r n it (tt, (λ s. tt))) (sent (λ (out : Out). IsUnread out.2) (λ (l : Letter). IsUnread l.message) (λ out h. h) r n it (tt, (λ s. tt)))
       rise false n r it is more same = was (record { at = live.at; up = live.up; last = same })
 

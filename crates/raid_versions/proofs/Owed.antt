@@ -1,5 +1,5 @@
 -- What is known of a world besides, and what each kind of step owes for copies to have the last versions.
-use Rattle.std.proofs.Common.{◌≡◌, ℕ, suc, ◌+◌, true, List, ◌∷◌, Some}
+use Rattle.std.proofs.Common.{◌≡◌, ℕ, suc, ◌+◌, List, ◌∷◌, Some}
 use Rattle.std.specs.Prelude.{slice_get, slice_set}
 use Rattle.raid_base.specs.declared.names.Item.{Item}
 use Rattle.raid_base.specs.Sites.{site}

@@ -1,7 +1,7 @@
 -- What a placed entry says of copies: a Commit is applied at the up sites that hold what it writes, and a Read is of an unlocked copy.
-use Rattle.std.proofs.Common.{◌≡◌, ◌⊎◌, inl, inr, ℕ, ℤ, ◌+◌, ◌==◌, nat_le, nat_lt, Bool, true, false, not, ◌&&◌, ◌||◌, List, [], ◌∷◌, ◌++◌, length, map, filter, Option, Some, None, if◌then◌else◌, arith, sym, subst, ap, ◌∙◌, refl}
+use Rattle.std.proofs.Common.{◌≡◌, ◌⊎◌, inl, inr, ℕ, ℤ, ◌+◌, ◌==◌, nat_le, Bool, true, false, not, ◌&&◌, ◌||◌, List, [], ◌∷◌, ◌++◌, length, Option, Some, None, if◌then◌else◌, sym, subst, ap, ◌∙◌, refl}
 use Rattle.std.specs.Prelude.{⊤, filter_map, slice_get, option_map, option_and_then}
-use Rattle.std.specs.List.{AllByRecursion, list_any, cons_option}
+use Rattle.std.specs.List.{cons_option}
 use Rattle.std.proofs.lemmas.Bool.{and_parts, and_from, true≢false}
 use Rattle.raid_base.specs.declared.names.Txn.{Txn}
 use Rattle.raid_base.specs.declared.names.Item.{Item}
@@ -11,32 +11,35 @@ use Rattle.raid_base.specs.declared.entry.Act.TheVariants as acts
 use Rattle.raid_base.specs.declared.entry.Cause.{Cause}
 use Rattle.raid_base.specs.declared.entry.Cause.TheVariants as causes
 use Rattle.raid_base.specs.declared.entry.Entry.{Entry}
-use Rattle.raid_base.specs.declared.entry.Entry.TheVariants.{Begin, Read, Wait, Commit, Abort, Ack, SwitchOn, SwitchEnd, Down, Up, Clear}
+use Rattle.raid_base.specs.declared.entry.Entry.TheVariants.{Read, Wait, Commit, Abort, SwitchOn, SwitchEnd, Up, Clear}
 use Rattle.raid_base.specs.declared.entry.Noted.{Noted}
 use Rattle.raid_base.specs.declared.verdict.Verdict.{Verdict}
 use Rattle.raid_base.specs.declared.verdict.Verdict.TheVariants as verdicts
 use Rattle.raid_base.specs.Names.{is_txn, is_item, has_site, holds}
 use Rattle.raid_workload.specs.declared.workload.Workload.{Workload}
 use Rattle.raid_workload.specs.declared.workload.Switch.{Switch}
-use Rattle.raid_workload.specs.Parts.{sites, home, placement}
+use Rattle.raid_workload.specs.Parts.{sites, home}
 use Rattle.raid_rules.specs.Entries.{writes_item}
-use Rattle.raid_rules.specs.History.{noted, add, ends, stamp, waiting, is_waiting, is_running, has_begun, has_ended, version}
-use Rattle.raid_rules.specs.Sessions.{holders, source_for, is_copy_locked}
+use Rattle.raid_rules.specs.History.{noted, add, ends, stamp, waiting, is_waiting, has_begun, has_ended, version}
+use Rattle.raid_rules.specs.Sessions.{source_for, is_copy_locked}
 use Rattle.raid_rules.specs.Verdicts.{writing, reading}
 use Rattle.raid_rules.proofs.Places.{by_last}
-use Rattle.raid_rules.proofs.Push.{noted_push, same_txn}
+use Rattle.raid_rules.proofs.Push.{noted_push}
 use Rattle.raid_rules.proofs.Sources.{has_kept}
-use Rattle.raid_legal.specs.Seen.{is_up, is_locked, sources, up_holders, holds_some}
+use Rattle.raid_legal.specs.Seen.{is_up, sources, up_holders, holds_some}
 use Rattle.raid_legal.specs.InForce.{InForce, in_force, is_joint, end_due, verdict}
-use Rattle.raid_legal.specs.Answers.{served, answer_read, answer_commit, answered, decided, closes_waits, site_refusal}
+use Rattle.raid_legal.specs.Answers.{served, answer_commit, answered, decided, closes_waits, site_refusal}
 use Rattle.raid_legal.specs.Forced.{forced, home_down, switch_off, switch_end, switch_on, woken, earliest}
-use Rattle.raid_legal.specs.Legal.{is_free}
 use Rattle.raid_legal.proofs.Left.{forced_compels}
 use Rattle.raid_placed.specs.Placed.{Placed, Placeable, Goes}
 use Rattle.raid_placed.proofs.Orderly.{placeable_follows}
 use Rattle.raid_placed.proofs.Sent.{placed_push}
+use Rattle.raid_sessions.proofs.Lists.{not_false, same_self}
+use Rattle.raid_asks.proofs.Facts.{or_left, or_right}
 use Rattle.raid_letters.specs.Says.{is_held, is_applied}
+use Rattle.raid_letters.proofs.Sends.{first_in}
 use Rattle.raid_versions.specs.Versions.{was_written_by}
+use Rattle.raid_versions.proofs.SiteCopies.{same_item}
 use Rattle.raid_versions.proofs.Written.{at_number, at_parts, at_kept, at_last}
 
 module _ (w : Workload) where
@@ -113,32 +116,18 @@ module _ (w : Workload) where
 
     -- whose Commit it is runs
     pub commit_runs : (t : Txn) (r : Request) (applied : List Site) → Placeable w p (Commit t r applied) → has_ended p t ≡ false
-    commit_runs t r applied goes = untrue (has_ended p t) (and_parts (has_begun p t) (not (has_ended p t)) (placeable_follows w p (Commit t r applied) goes)).1
-      where
-        untrue : (b : Bool) → not b ≡ true → b ≡ false
-        untrue true q = absurd (true≢false (sym q))
-        untrue false q = refl
+    commit_runs t r applied goes = not_false (has_ended p t) (and_parts (has_begun p t) (not (has_ended p t)) (placeable_follows w p (Commit t r applied) goes)).1
 
     -- a Read is of a source
     pub read_source : (t : Txn) (x : Item) (s : Site) → Placeable w p (Read t x s) → has_site (sources w p x) s ≡ true
     read_source t x s goes = go (forced w p) refl goes
       where
-        first_in : (ss : List Site) → slice_get ss 0 ≡ Some s → has_site ss s ≡ true
-        first_in [] q = absurd (cc q)
-        first_in (r ∷ ss) q = (let same : r ≡ s = cc q in subst (λ z. (s.0 == s.0 || has_site ss s) ≡ true → has_site (z ∷ ss) s ≡ true) (sym same) (λ h. h) (own s.0 (has_site ss s)))
-          where
-            own : (n : ℕ) (b : Bool) → (n == n || b) ≡ true
-            own n b = ap (λ c. c || b) (self n)
-              where
-                self : (n : ℕ) → (n == n) ≡ true
-                self n = grind arith
-
         source_in : (found : List Site) (h : Site) → source_for found h ≡ Some s → has_site found s ≡ true
         source_in found h q = at (has_site found h) refl q
           where
             at : (b : Bool) → has_site found h ≡ b → (if b then Some h else slice_get found 0) ≡ Some s → has_site found s ≡ true
             at true e q = (let same : h ≡ s = cc q in subst (λ z. has_site found z ≡ true) same e)
-            at false e q = first_in found q
+            at false e q = first_in found s q
 
         served_site : (o : Option Site) (v : Verdict) → served t x o v ≡ Read t x s → o ≡ Some s
         served_site None v q = cc q
@@ -179,37 +168,17 @@ module _ (w : Workload) where
   some_held [] s h = absurd (true≢false (sym h))
   some_held (pair ∷ writes) s h = go (is_held w s pair.0) refl h (some_held writes s)
     where
-      own : (n : ℕ) (b : Bool) → (n == n || b) ≡ true
-      own n b = ap (λ c. c || b) (self n)
-        where
-          self : (n : ℕ) → (n == n) ≡ true
-          self n = grind arith
-
-      behind : (a b : Bool) → b ≡ true → (a || b) ≡ true
-      behind true b q = refl
-      behind false b q = q
-
       go : (b : Bool) → is_held w s pair.0 ≡ b → (b || holds_some w writes s) ≡ true → (holds_some w writes s ≡ true → (x : Item) × ((holds x writes ≡ true) × (is_held w s x ≡ true))) → (x : Item) × ((holds x (pair ∷ writes) ≡ true) × (is_held w s x ≡ true))
-      go true q r rest = (pair.0, (own pair.0.0 (holds pair.0 writes), q))
-      go false q r rest = (let more = rest r in (more.0, (behind (is_item more.0 pair.0) (holds more.0 writes) more.1.0, more.1.1)))
+      go true q r rest = (pair.0, (or_left (pair.0.0 == pair.0.0) (holds pair.0 writes) (same_self pair.0.0), q))
+      go false q r rest = (let more = rest r in (more.0, (or_right (is_item more.0 pair.0) (holds more.0 writes) more.1.0, more.1.1)))
 
   pub held_some : (writes : List (Item × ℤ)) (s : Site) (x : Item) → holds x writes ≡ true → is_held w s x ≡ true → holds_some w writes s ≡ true
   held_some [] s x h held = absurd (true≢false (sym h))
   held_some (pair ∷ writes) s x h held = go (is_item x pair.0) refl h (λ r. held_some writes s x r held)
     where
-      behind : (a b : Bool) → b ≡ true → (a || b) ≡ true
-      behind true b q = refl
-      behind false b q = q
-
-      same_item : (y : Item) → is_item x y ≡ true → y ≡ x
-      same_item y q = ap (λ n. let z : Item = record { 0 = n } in z) (same y.0 x.0 q)
-        where
-          same : (a b : ℕ) → (a == b) ≡ true → a ≡ b
-          same a b q = grind (arith, q)
-
       go : (b : Bool) → is_item x pair.0 ≡ b → (b || holds x writes) ≡ true → (holds x writes ≡ true → holds_some w writes s ≡ true) → (is_held w s pair.0 || holds_some w writes s) ≡ true
-      go true q r rest = ap (λ c. c || holds_some w writes s) (subst (λ y. is_held w s y ≡ true) (sym (same_item pair.0 q)) held)
-      go false q r rest = behind (is_held w s pair.0) (holds_some w writes s) (rest r)
+      go true q r rest = ap (λ c. c || holds_some w writes s) (subst (λ y. is_held w s y ≡ true) (sym (same_item x pair.0 q)) held)
+      go false q r rest = or_right (is_held w s pair.0) (holds_some w writes s) (rest r)
 
   -- a Commit that was applied at a site wrote an item that the site holds
   abbrev pub WroteHeld : List Noted → Txn → Site → ℕ → Type 0

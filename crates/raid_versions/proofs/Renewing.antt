@@ -1,17 +1,15 @@
 -- What the sequencer sends besides its entries' letters keeps what copies have and get: copies that it sends for, and counts of ends.
-use Rattle.std.proofs.Common.{◌≡◌, ◌⊎◌, inl, inr, ℕ, ◌+◌, ◌<◌, ◌≤◌, ◌==◌, Bool, true, false, List, [], ◌∷◌, ◌++◌, length, map, fold, Some, arith, sym, subst, ap, ◌∙◌, refl}
+use Rattle.std.proofs.Common.{◌≡◌, ◌⊎◌, inl, inr, ℕ, ◌+◌, ◌<◌, ◌≤◌, ◌==◌, true, false, List, [], ◌∷◌, ◌++◌, length, map, fold, Some, arith, sym, subst, ap, ◌∙◌, refl}
 use Rattle.std.specs.Prelude.{⊤, slice_get}
 use Rattle.std.specs.List.{AllByRecursion}
-use Rattle.std.proofs.lemmas.Bool.{eqb-true, true≢false}
-use Rattle.raid_base.specs.declared.names.Txn.{Txn}
+use Rattle.std.proofs.lemmas.Bool.{true≢false}
 use Rattle.raid_base.specs.declared.names.Item.{Item}
 use Rattle.raid_base.specs.declared.names.Site.{Site}
 use Rattle.raid_base.specs.declared.entry.Entry.{Entry}
 use Rattle.raid_base.specs.declared.entry.Noted.{Noted}
-use Rattle.raid_base.specs.Names.{is_item}
 use Rattle.raid_base.specs.Sites.{session, site}
 use Rattle.raid_workload.specs.declared.workload.Workload.{Workload}
-use Rattle.raid_rules.specs.History.{noted, version}
+use Rattle.raid_rules.specs.History.{noted}
 use Rattle.raid_rules.specs.Sessions.{last_session, is_copy_locked}
 use Rattle.raid_legal.specs.Seen.{vector}
 use Rattle.raid_message.specs.declared.letter.Message.{Message}
@@ -25,12 +23,13 @@ use Rattle.raid_sessions.proofs.Lists.{all_append, all_weaken, get_below}
 use Rattle.raid_sessions.proofs.Mail.{letters_to, posts_here, posts_square}
 use Rattle.raid_asks.proofs.Notes.{all_sent}
 use Rattle.raid_letters.specs.Says.{is_held}
-use Rattle.raid_versions.specs.Versions.{IsVersion, OwesLast, IsLive, is_pending, latest, NonePending, NoGap, reads_copy, Along, ReadsWhole, IsKeptUp, ApplyOwed, AboveAt, Sends, LastVersions}
+use Rattle.raid_versions.specs.Versions.{IsLive, is_pending, latest, NonePending, NoGap, Along, ReadsWhole, IsKeptUp, ApplyOwed, AboveAt, Sends}
 use Rattle.raid_versions.proofs.Copied.{held_copied}
 use Rattle.raid_versions.proofs.Grown.{kept_more, was, Grows, grown}
 use Rattle.raid_versions.proofs.Links.{pending_parts, IsUnapplied, AreUnapplied, AppliesOnly, pending_none, latest_none, all_alike}
 use Rattle.raid_versions.proofs.Mid.{ApplySays, Mid}
 use Rattle.raid_versions.proofs.Owed.{HoldsOwn}
+use Rattle.raid_versions.proofs.SiteCopies.{same_item}
 use Rattle.raid_versions.proofs.Sent.{posts_others, place_is, along_each, along_any}
 use Rattle.raid_versions.proofs.Steps.{IsDue, AreDue}
 use Rattle.raid_versions.proofs.Written.{version_most, version_long}
@@ -98,9 +97,6 @@ module _ (w : Workload) (sites : List SiteState) (long : length sites ≡ w.site
     peers = λ k j. posts_others 1 0 clock outs links (k + 2) (j + 2) (λ r. omega (arith, r));
   }
 
-  same_item : (x y : Item) → is_item x y ≡ true → x ≡ y
-  same_item x y r = ap (λ n. let z : Item = record { 0 = n } in z) (sym (eqb-true y.0 x.0 r))
-
   kept : (k : ℕ) (s : SiteState) → IsLive p sites k s → (x : Item) (c : Copy) → copy_of s x ≡ Some c → IsKeptUp p (site (k + 1)) x s.session c.version (notes k ++ new k)
   kept k s live x c has =
       kept_more p p (site (k + 1)) x s.session c.version (notes k) (new k) (λ n. refl) refl old.current old.locked (mid.last.versions k s live.at x c has) (λ v. latest_none p x s.session v (new k) (unapplied k))
@@ -113,7 +109,7 @@ module _ (w : Workload) (sites : List SiteState) (long : length sites ≡ w.site
       full free behind n wrote more = (let now = old.current free in let most = version_most h x n wrote in absurd (omega (arith, now, most, more)))
 
       go : (m : Message) → IsRenewing w p m (site (k + 1)) → (behind : List Letter) → ReadsWhole p x s.session (latest p x s.session c.version (notes k)) m behind
-      go (letters.CopyDo y target n) due behind it = full (subst (λ z. is_copy_locked p (site (k + 1)) z ≡ false) (sym (same_item x y it)) due.unlocked) behind
+      go (letters.CopyDo y target n) due behind it = full (subst (λ z. is_copy_locked p (site (k + 1)) z ≡ false) (same_item x y it) due.unlocked) behind
       go (letters.Ends count) due behind it = absurd (true≢false (sym it))
       go other due behind it = absurd due
 
@@ -138,7 +134,7 @@ module _ (w : Workload) (sites : List SiteState) (long : length sites ≡ w.site
   sends k s live x c has = along_any (Sends p sites after x) p x s.session (latest p x s.session c.version (notes k)) (new k) (each k (λ (l : Letter). (v : ℕ) (behind : List Letter) → Sends p sites after x v l.message behind) (λ l to due. go l.message due))
     where
       go : (m : Message) → IsRenewing w p m (site (k + 1)) → (v : ℕ) (behind : List Letter) → Sends p sites after x v m behind
-      go (letters.CopyDo y target n) due v behind = λ it j place. subst (λ z. AboveAt p sites after j n z v) (sym (same_item x y it)) (above j target n y v (site (k + 1)) due place)
+      go (letters.CopyDo y target n) due v behind = λ it j place. subst (λ z. AboveAt p sites after j n z v) (same_item x y it) (above j target n y v (site (k + 1)) due place)
       go (letters.Ends count) due v behind = tt
       go other due v behind = absurd due
 

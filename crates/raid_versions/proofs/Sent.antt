@@ -1,9 +1,9 @@
 -- What an entry sends, and what there is on the links after it.
 use Rattle.std.proofs.Common.{◌≡◌, ◌≢◌, ◌⊎◌, inl, inr, ℕ, zero, suc, ◌+◌, ◌==◌, Bool, true, false, not, ◌&&◌, ◌||◌, List, [], ◌∷◌, ◌++◌, length, map, filter, fold, if◌then◌else◌, arith, sym, subst, ap, ◌∙◌, refl, append_assoc}
 use Rattle.std.specs.Prelude.{⊤, flat_map, slice_set, slice_index_or}
-use Rattle.std.specs.List.{AllByRecursion, list_any}
+use Rattle.std.specs.List.{AllByRecursion}
 use Rattle.std.proofs.lemmas.List.{get_or-set_other}
-use Rattle.std.proofs.lemmas.Bool.{and_parts, and_from, eqb-true, true≢false}
+use Rattle.std.proofs.lemmas.Bool.{and_from, eqb-true, true≢false}
 use Rattle.raid_base.specs.declared.names.Txn.{Txn}
 use Rattle.raid_base.specs.declared.names.Item.{Item}
 use Rattle.raid_base.specs.declared.names.Site.{Site}
@@ -24,9 +24,9 @@ use Rattle.raid_steps.specs.World.{link, set_link, post}
 use Rattle.raid_sessions.proofs.Lists.{all_append, same_self}
 use Rattle.raid_sessions.proofs.Mail.{same_or_not, set_server, letter_of, letters_to}
 use Rattle.raid_asks.proofs.Facts.{or_left, or_right}
-use Rattle.raid_asks.proofs.Notes.{letters_append, all_sent}
+use Rattle.raid_asks.proofs.Notes.{letters_append}
 use Rattle.raid_versions.specs.Versions.{applies, is_pending, after_letter, Along}
-use Rattle.raid_versions.proofs.Links.{IsUnapplied, AreUnapplied, pending_on, after_none}
+use Rattle.raid_versions.proofs.Links.{AreUnapplied, pending_on, after_none}
 
 -- links of another sender stay as they are
 set_or_same : {X : Type 0} (xs : List X) (k : ℕ) (y d : X) → (slice_index_or (slice_set xs k y) k d ≡ y) ⊎ (slice_set xs k y ≡ xs)

@@ -482,7 +482,7 @@ module _ (w : Workload) (state : World) (known : Known w state) (last : HaveLast
       within : (x : Item) (d : Copy) (n : ℕ) → copy_of turn.state x ≡ Some d → was_written_by p t x n ≡ true → n ≤ d.version
       within x d n has wrote =
           let made_of = found_mapped (renewed number (held_by w here writes)) (renewed_item number (held_by w here writes)) x own.copies d
-              (sym (ap (find (λ (c : Copy). is_item x c.item)) (same ∙ ap (λ z. map (renewed number z) own.copies) (part t number tells ps q))) ∙ has) in
+          (sym (ap (find (λ (c : Copy). is_item x c.item)) (same ∙ ap (λ z. map (renewed number z) own.copies) (part t number tells ps q))) ∙ has) in
           let written : was_written p x number ≡ true = subst (λ z. was_written p x z ≡ true) (one_number x n wrote) (written_by p t x n wrote) in
           let now = has_number t number tells x made_of.0 d made_of.1.0 made_of.1.1 written in
           let is = one_number x n wrote in

@@ -1,6 +1,6 @@
 -- The sequencer's step, entry by entry, with what the versions of copies need to know of each: whose Ack it takes, whose copy was renewed,
 -- which session opens, and why a copy is sent for.
-use Rattle.std.proofs.Common.{◌≡◌, ℕ, zero, suc, ◌+◌, ◌<◌, ◌≤◌, ◌==◌, nat_lt, nat_le, Bool, true, false, not, ◌&&◌, ◌||◌, List, [], ◌∷◌, ◌++◌, map, filter, Option, Some, None, if◌then◌else◌, arith, sym, subst, ap, ◌∙◌, refl, append-nil}
+use Rattle.std.proofs.Common.{◌≡◌, ℕ, zero, suc, ◌+◌, ◌<◌, ◌==◌, nat_lt, nat_le, Bool, true, false, not, ◌&&◌, ◌||◌, List, [], ◌∷◌, ◌++◌, map, filter, Option, Some, None, if◌then◌else◌, arith, sym, subst, ◌∙◌, refl, append-nil}
 use Rattle.std.specs.Prelude.{⊤, flat_map, filter_map, slice_get, option_map}
 use Rattle.std.specs.List.{AllByRecursion, list_any, cons_option}
 use Rattle.std.specs.Option.{option_map_or}
@@ -13,7 +13,7 @@ use Rattle.raid_base.specs.declared.entry.Act.TheVariants as acts
 use Rattle.raid_base.specs.declared.entry.Cause.{Cause}
 use Rattle.raid_base.specs.declared.entry.Cause.TheVariants as causes
 use Rattle.raid_base.specs.declared.entry.Entry.{Entry}
-use Rattle.raid_base.specs.declared.entry.Entry.TheVariants.{Begin, Read, Wait, Commit, Abort, Ack, SwitchOn, SwitchEnd, Down, Up, Clear}
+use Rattle.raid_base.specs.declared.entry.Entry.TheVariants.{Begin, Wait, Commit, Abort, Ack, SwitchOn, SwitchEnd, Down, Up, Clear}
 use Rattle.raid_base.specs.declared.entry.Noted.{Noted}
 use Rattle.raid_base.specs.declared.verdict.Verdict.{Verdict}
 use Rattle.raid_base.specs.declared.verdict.Verdict.TheVariants as verdicts
@@ -36,7 +36,7 @@ use Rattle.raid_message.specs.declared.letter.Message.{Message}
 use Rattle.raid_message.specs.declared.letter.Message.TheVariants as letters
 use Rattle.raid_message.specs.declared.letter.Letter.{Letter}
 use Rattle.raid_serial.proofs.Facts.{some_is, none_is}
-use Rattle.raid_steps.specs.State.{Out, Turn, Sequencer, Copying, opened}
+use Rattle.raid_steps.specs.State.{Turn, Sequencer, Copying, opened}
 use Rattle.raid_steps.specs.Fits.{knows_site, is_to_sequencer}
 use Rattle.raid_steps.specs.Sequencer as rows
 use Rattle.raid_steps.specs.Sequencer.{so_far, place, place_if, settle_from, settle, Settles, quiet, more, finish, leave, hear_sequencer}
@@ -45,7 +45,7 @@ use Rattle.raid_placed.proofs.Heard.{Fine, leave_fine, sent_placed, read_sent, c
 use Rattle.raid_placed.proofs.Sent.{unforced_placeable, forced_placeable}
 use Rattle.raid_placed.proofs.Settled.{place_placed, settle_placed, settle_settles, settle_quiet}
 use Rattle.raid_sessions.proofs.Ledger.{is_still, last_still, last_down}
-use Rattle.raid_sessions.proofs.Lists.{all_append}
+use Rattle.raid_sessions.proofs.Lists.{all_append, not_false}
 use Rattle.raid_letters.specs.Says.{is_held}
 use Rattle.raid_letters.proofs.Sends.{first_in}
 
@@ -67,19 +67,12 @@ module _ (w : Workload) where
       go None q rest = rest
       go (Some y) q rest = (each x y q, rest)
 
-  untrue : (b : Bool) → not b ≡ true → b ≡ false
-  untrue true q = absurd (no q)
-    where
-      no : false ≡ true → ⊥
-      no q = cc q
-  untrue false q = refl
-
   -- sources are up and unlocked
   pub source_unlocked : (p : List Noted) (x : Item) (s : Site) → has_site (sources w p x) s ≡ true → (is_site_up (vector w p) s ≡ true) × (is_copy_locked p s x ≡ false)
   source_unlocked p x s q =
       let both = and_parts (rules.is_source w.sites (placement w) p x s) (has_site all_sites s) (sym (has_kept (rules.is_source w.sites (placement w) p x) s all_sites) ∙ q) in
       let parts = and_parts (is_held w s x && is_site_up (vector w p) s) (not (is_copy_locked p s x)) both.0 in
-      ((and_parts (is_held w s x) (is_site_up (vector w p) s) parts.0).1, untrue (is_copy_locked p s x) parts.1)
+      ((and_parts (is_held w s x) (is_site_up (vector w p) s) parts.0).1, not_false (is_copy_locked p s x) parts.1)
 
   module _ (p : List Noted) where
     all_due : (out : List Copying) (s : Site) → AreDue p (rows.copies_due w p out s)
