@@ -5,32 +5,21 @@ use Rattle.raid_message.specs.declared.letter.Pick.{Pick}
 use Rattle.raid_steps.specs.World.{run, report, is_idle}
 use Rattle.raid_legal.specs.Legal.{Legal}
 use Rattle.raid_legal.specs.Serial.{Serial}
-use Rattle.raid_layers.proofs.Laws.{asks_one}
-use Rattle.raid_staged.proofs.PartRuns.{runs_agree}
-use Rattle.raid_staged.proofs.Runs.{landed}
 use Rattle.raid_runs.specs.Asked.{AreAsked}
 use Rattle.raid_runs.proofs.Legal.{upheld_legal, upheld_serial}
 use Rattle.raid_runs.proofs.Upheld.{run_upheld}
-use Rattle.raid_values.proofs.GetsRuns.{runs_get}
-use Rattle.raid_values.proofs.Given.{given_seen}
+use Rattle.raid_values.proofs.Given.{runs_give}
 use Rattle.raid_values.proofs.Idle.{idle_current}
-use Rattle.raid_values.proofs.Runs.{runs_of}
 use Rattle.raid_legal_runs.specs.Tell.{TellSeen}
 use Rattle.raid_legal_runs.specs.Truthful.{Truthful}
 use Rattle.raid_legal_runs.proofs.Runs.{runs_see, runs_tell}
-use Rattle.raid_legal_runs.proofs.Worlds.{GivesSeen}
 
 module _ (w : Workload) where
-  -- what a letter gives to a program is what its transaction has seen
-  gives : (schedule : List Pick) → GivesSeen w (run w schedule).servers (run w schedule).links
-  gives schedule k own at up last from letter rest front =
-      given_seen w (run w schedule) (landed w schedule) (runs_agree w schedule) (runs_of w schedule) (asks_one w schedule) (runs_get w schedule) from 0 letter rest k own (record { at = at; up = up; last = last }) front
-
   pub tell : (schedule : List Pick) → TellSeen w (run w schedule)
-  tell schedule = runs_tell w gives schedule
+  tell schedule = runs_tell w (runs_give w) schedule
 
   asked : (schedule : List Pick) → AreAsked w (report w (run w schedule).servers).entries
-  asked schedule = (runs_see w gives schedule).entries
+  asked schedule = (runs_see w (runs_give w) schedule).entries
 
   pub legal : (schedule : List Pick) → Legal w (report w (run w schedule).servers).entries
   legal schedule = upheld_legal w (report w (run w schedule).servers) (run_upheld w schedule) (asked schedule)
