@@ -13,3 +13,4 @@ pub mod Reports
 pub mod Sited
 pub mod Links
 pub mod First
+pub mod Crossing

@@ -6,6 +6,7 @@
 pub mod linking;
 pub mod making;
 pub mod node;
+pub mod running;
 pub mod sending;
 pub mod server;
 pub mod settling;

@@ -7,14 +7,18 @@ ghost use Rattle.raid_nodes.specs.Ran.{AllGo, AreOpen, AreServers, Ran, all_step
 
 use crate::making::nodes;
 use crate::node::ServerNode;
+use crate::running::{are_below_limit, run_nodes};
 use crate::server::Server;
 use crate::telling;
 use crate::telling::report_of;
 use raid_base::{NoMemory, Report};
 use raid_control::{Controller, Rack};
+use raid_link::Gate;
 use raid_merge::{Journal, Journals, Schedule, merge};
+use raid_rounds::Rounds;
 use raid_workload::Workload;
 use std::alloc::Global;
+use std::thread::Threads;
 
 /// All servers of a workload, each as a node that can run in a thread of its own. After want of memory nothing is said of them.
 #[derive(Drop)]
@@ -40,6 +44,31 @@ impl Nodes {
     {
         let nodes = nodes(alloc, workload, places, rack)?;
         Ok(Nodes { nodes })
+    }
+
+    /// Runs the servers from the start on, each in a thread of its own, with this gate before each step. Idle where no letter is left on any
+    /// link; Spent after `most` rounds, each of them with a step, where one is left. What they have done is a run of the definitions then.
+    /// Want of memory is the only error, and a clock at its greatest value counts as that.
+    pub fn run<R: Threads + Sync, G: Gate>(
+        &mut self,
+        rt: &R,
+        alloc: Global,
+        workload: &Workload,
+        gate: &G,
+        most: u64,
+    ) -> Result<Rounds, NoMemory>
+        requires open { AreOpen ⟦<dyn Controller as Controller>⟧ workload.now self.old.nodes.items }
+        requires few { most ≤ 10000000 }
+        ensures idle { IfOk result (λ r. r ≡ Rounds.Idle → Ran workload.now true self.new.nodes.items) }
+        ensures spent { IfOk result (λ r. r ≡ Rounds.Spent → Ran workload.now false self.new.nodes.items × (most ≤ all_steps self.new.nodes.items)) }
+        ensures ran { OnOk result ((b : Bool) × Ran workload.now b self.new.nodes.items) }
+        ensures go { OnOk result (AllGo ⟦<dyn Controller as Controller>⟧ workload.now self.new.nodes.items) }
+    {
+        let rounds = run_nodes(rt, alloc, &mut self.nodes, workload, gate, most)?;
+        if !are_below_limit(&self.nodes) {
+            return Err(NoMemory);
+        }
+        Ok(rounds)
     }
 }
 
