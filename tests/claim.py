@@ -1,5 +1,5 @@
 #!/usr/bin/env python3
-"""Lists what has to be believed: the definitions behind the contract of the program's call `run`, in three tiers, in docs/claim.md.
+"""Lists what has to be believed: the definitions behind the contract of the program's call `run`, in four tiers, in docs/claim.md.
 
     claim.py            compares docs/claim.md with what the definitions are now, and with the most lines that it allows to each tier
     claim.py --write    writes docs/claim.md anew, and leaves the most lines as they are there
@@ -21,12 +21,16 @@ PAGE = f"{ROOT}/docs/claim.md"
 # The tiers: a heading, what it says, and the definitions that it begins with. What an earlier tier has is no part of a later one.
 TIERS = (
     ("The claim on a report", "what holds of each report that the program prints, as a value: no word of texts, and none of the machine that made it",
-     ["raid_runs.specs.Upheld.Upheld"]),
+     ["raid_legal_runs.specs.Truthful.Truthful"]),
     ("How texts are read and printed", "which text says which workload, what is refused, and how a report, a summary and a made workload are printed",
      ["raid_text.specs.Outcome.Reads", "raid_text.specs.Outcome.IsFirstFault", "raid_text.specs.Spelling.print_of", "raid_report.specs.Spelling.print_of",
       "raid_report.specs.Brief.brief_of", "raid_generator.specs.Made.IsMade", "raid_command.specs.Asked.command_of", "raid_app.specs.Lines.usage_line",
       "raid_app.specs.Lines.too_long_line", "raid_app.specs.Lines.fault_line"]),
-    ("Which run it was", "that the report is the one that the servers make when they take their letters in the fixed order, and how a call ends: its "
+    ("What is found of a report", "which bytes are a workload's text and a report's, which text says which report, and when a report that anybody sends is "
+     "sound, or fails, and how", ["raid_check.specs.Finding.Finds", "raid_report.specs.Beginnings.IsTextOf", "raid_report.specs.Beginnings.IsFirstUnfit",
+                                  "raid_app.specs.Input.workload_text", "raid_app.specs.Input.report_text", "raid_app.specs.Lines.unfit_line",
+                                  "raid_app.specs.Lines.finding_line"]),
+    ("Which run it was", "that the report is that of a run of the definitions, by the schedule that the call answers, and how a call ends: its "
      "status, what it read and what it wrote", ["raid_app.specs.Ended.Ends"]),
 )
 HEAD = """# What has to be believed

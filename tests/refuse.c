@@ -2,15 +2,17 @@
    the variable RAID_REFUSE names. tests/allocations.sh builds and uses it. */
 #define _GNU_SOURCE
 #include <dlfcn.h>
+#include <stdatomic.h>
 #include <stddef.h>
 #include <stdlib.h>
 
-static long taken;
+/* All threads count together. Which of them takes the allocation with a number is as it comes. */
+static atomic_long taken;
 
 static int refused(void) {
     const char *number = getenv("RAID_REFUSE");
-    taken += 1;
-    return number != NULL && atol(number) == taken;
+    long own = atomic_fetch_add(&taken, 1) + 1;
+    return number != NULL && atol(number) == own;
 }
 
 void *malloc(size_t size) {

@@ -1,10 +1,13 @@
-"""Compares the program's reports with those of the reference model, byte for byte, on workloads of all forms.
+"""Runs workloads of all forms, and has the reference model judge each report.
+
+With the word `fixed` the program is one that takes the letters in the fixed order, and each report is compared with the model's, byte for byte.
+Otherwise it runs its servers on threads: then only workloads of one site without stops have one report, and the others' are judged alone.
 
 Half of the workloads are drawn by the model's own generator; the others here, each with one to four sites, of
 every kind and structure, switches of every method that the structure has, stops and returns, and restarts. Each report
 of the program is judged by the model, too.
 
-    runs.py PROGRAM COUNT [SEED]
+    runs.py PROGRAM fixed|run COUNT [SEED]
 """
 import collections
 import itertools
@@ -18,9 +21,6 @@ from program import expected, run
 from raid_text import parse, print_workload
 from raid_types import Event, Homed, KINDS, STRUCTURES, Switch
 
-# Whether the program takes the letters of all workloads in one order: always those of the least server, from the least sender.
-# Otherwise only workloads of one site without stops have one report, and the others' are judged alone.
-ORDER_IS_FIXED = True
 FORMS = list(itertools.product(KINDS, STRUCTURES, (1, 2, 3, 4)))
 
 
@@ -75,23 +75,24 @@ def counted(w):
 
 
 def main():
-    program, count = sys.argv[1], int(sys.argv[2])
-    seed = int(sys.argv[3]) if len(sys.argv) > 3 else 1
+    program, word, count = sys.argv[1], sys.argv[2], int(sys.argv[3])
+    seed = int(sys.argv[4]) if len(sys.argv) > 4 else 1
     failed, tally = 0, collections.Counter()
     for k in range(count):
         rng = random.Random(f"runs {seed} {k}")
         w = drawn(rng, k // 2) if k % 2 else fuzz.random_workload(rng)
         text = print_workload(w)
         w = parse(text)
-        status, report = run([program, "run"], text)
+        status, report = run([program, word], text)
         tally.update(counted(w))
         _, wanted = expected(text)
         judged = oracle.judged("check", text + report) if status == 0 else None
-        alike = report == wanted or not (ORDER_IS_FIXED or w.sites == 1 and not w.events)
+        alike = report == wanted or not (word == "fixed" or w.sites == 1 and not w.events)
         if not alike or judged != (0, "sound\n"):
             failed += 1
             print(f"workload {k}: status {status}, judged {judged}\n{text.decode()}--- program\n{report.decode()}--- model\n{wanted.decode()}")
-    print(f"runs: {count} workloads, {count - failed} reports agree with the model and are sound, {failed} don't; of them: "
+    fits = "agree with the model and are sound" if word == "fixed" else "are sound"
+    print(f"runs: {count} workloads, {count - failed} reports of `{word}` {fits}, {failed} don't; of them: "
           + ", ".join(f"{n} {name}" for name, n in sorted(tally.items())))
     return 1 if failed else 0
 

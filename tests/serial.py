@@ -1,10 +1,9 @@
 """Compares the program's reports with those of the reference model, byte for byte.
 
-This script runs the program and the model on the examples, of whatever form, and on random workloads of one
-site whose transactions go one at a time, which have one report each. It compares, and doesn't decide which
-of the two is right.
+This script runs FIXED, which takes letters in the fixed order, and the model on the examples, of whatever form, and PROGRAM and the model on random
+workloads of one site whose transactions go one at a time, which have one report each. It compares, and doesn't decide which of the two is right.
 
-    serial.py PROGRAM COUNT [SEED]
+    serial.py PROGRAM FIXED COUNT [SEED]
 """
 
 import random
@@ -58,22 +57,22 @@ def workload(draw: random.Random) -> bytes:
     return ("\n".join(lines) + draw.choice(["\n", ""])).encode()
 
 
-def differs(program: str, name: str, text: bytes) -> bool:
+def differs(command: list[str], name: str, text: bytes) -> bool:
     """Whether the program and the model differ, and then both are printed."""
-    ours, theirs = run([program, "run"], text), expected(text)
+    ours, theirs = run(command, text), expected(text)
     if ours != theirs:
         print(f"{name}: the program and the model differ\n{text.decode()}\n--- program {ours}\n--- model {theirs}")
     return ours != theirs
 
 
 def main() -> int:
-    program, count = sys.argv[1], int(sys.argv[2])
-    seed = int(sys.argv[3]) if len(sys.argv) > 3 else 1
+    program, fixed, count = sys.argv[1], sys.argv[2], int(sys.argv[3])
+    seed = int(sys.argv[4]) if len(sys.argv) > 4 else 1
     examples = [(path.name, path.read_bytes()) for path in sorted(Path("examples").glob("*.txt"))]
     drawn = [(f"seed {seed + k}", workload(random.Random(seed + k))) for k in range(count)]
-    texts = examples + drawn
-    failed = sum(differs(program, name, text) for name, text in texts)
-    print(f"serial: {len(examples)} examples, and {count} random workloads run one transaction at a time: {len(texts) - failed} reports "
+    failed = sum(differs([fixed, "fixed"], name, text) for name, text in examples)
+    failed += sum(differs([program, "run"], name, text) for name, text in drawn)
+    print(f"serial: {len(examples)} examples, and {count} random workloads run one transaction at a time: {len(examples) + count - failed} reports "
           f"agree with the model, {failed} don't")
     return 1 if failed else 0
 

@@ -1,5 +1,4 @@
 pub mod Bound
 pub mod Counts
-pub mod Picks
+pub mod Judging
 pub mod Sayings
-pub mod Taken

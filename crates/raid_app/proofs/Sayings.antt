@@ -1,6 +1,6 @@
 -- What is said of texts and workloads, from the facts that the code finds.
-use Rattle.std.proofs.Common.{◌≡◌, ℕ, ◌<◌, ◌≤◌, Bool, true, false, List, length, subst, sym, ap, ◌∙◌, refl, Option, Some, None}
-use Rattle.std.specs.Prelude.{Result, Ok, Err, IfOk, IfErr, OnErr, is_some, is_none}
+use Rattle.std.proofs.Common.{◌≡◌, ℕ, ◌<◌, ◌≤◌, Bool, true, List, length, subst, sym, ap, ◌∙◌, refl, Option, Some, None}
+use Rattle.std.specs.Prelude.{Result, Ok, Err, IfOk, IfErr, OnErr}
 use Rattle.raid_base.specs.declared.names.NoMemory.{NoMemory}
 use Rattle.raid_base.specs.declared.report.Report.{Report}
 use Rattle.raid_tokens.specs.declared.fault.Fault.{Fault}
@@ -11,8 +11,8 @@ use Rattle.raid_text.specs.declared.error.Refused.TheVariants.{Text}
 use Rattle.raid_text.specs.Outcome.{Reads, IsFirstFault, IsFirst}
 use Rattle.raid_text.specs.Spelling as texts
 use Rattle.raid_generator.specs.Made.{IsMade}
-use Rattle.raid_steps.specs.World.{run, report, is_idle}
-use Rattle.raid_runs.proofs.Upheld.{run_upheld}
+use Rattle.raid_steps.specs.World.{run, report, is_schedule, is_idle}
+use Rattle.raid_legal_runs.proofs.Laws.{truthful}
 use Rattle.raid_command.specs.declared.asked.Command.{Command}
 use Rattle.raid_command.specs.declared.asked.Command.TheVariants as commands
 use Rattle.raid_command.specs.Asked.{command_of}
@@ -20,26 +20,17 @@ use Rattle.raid_io.specs.declared.whole.ReadError.{ReadError}
 use Rattle.raid_io.specs.declared.whole.ReadError.TheVariants as errors
 use Rattle.raid_io.specs.Whole.{OnFailed}
 use Rattle.raid_app.specs.declared.answer.Answer.{Answer}
-use Rattle.raid_app.specs.Answer.{limit, saying, silent, told, Runs, idle, Says, long, faulty, reads, HasRead, Answers, read, no_memory, Asked}
-use Rattle.raid_app.specs.Answer as answers
+use Rattle.raid_app.specs.Answer.{limit, saying, silent, told, Runs, idle, Says, long, faulty, reads, HasRead, OfText, read, no_memory}
+use Rattle.raid_app.specs.Asked.{Asked}
+use Rattle.raid_app.specs.Asked as answers
 use Rattle.raid_app.specs.Change.{Change}
 use Rattle.raid_app.specs.Lines.{usage_line, too_long_line, fault_line}
-use Rattle.raid_app.specs.Picked.{IsRun}
-
--- what is there isn't nothing
-pub not_none : {X : Type 0} (o : Option X) → is_some o ≡ true → is_none o ≡ false
-not_none (Some x) h = refl
-not_none None h = absurd (let e : false ≡ true = h in cc)
-
-pub none_there : {X : Type 0} (o : Option X) → is_some o ≡ false → is_none o ≡ true
-none_there (Some x) h = absurd (let e : true ≡ false = h in cc)
-none_there None h = refl
 
 -- the report of a run in which no letter is left is said
-pub said_report : (brief : Bool) (w : Workload) (schedule : List Pick) (r : Report) (text : List ℕ) → IsRun w schedule → is_idle (run w schedule) ≡ true → r ≡ report w (run w schedule).servers → text ≡ told brief w r →
+pub said_report : (brief : Bool) (w : Workload) (schedule : List Pick) (r : Report) (text : List ℕ) → is_schedule w schedule ≡ true → is_idle (run w schedule) ≡ true → r ≡ report w (run w schedule).servers → text ≡ told brief w r →
     Runs brief w (record { status = 0; text = Some text; schedule = schedule })
 said_report brief w schedule r text is end e f =
-    subst (λ t. Runs brief w (record { status = 0; text = Some t; schedule = schedule })) (sym (f ∙ ap (told brief w) e)) (idle schedule is end (run_upheld w schedule))
+    subst (λ t. Runs brief w (record { status = 0; text = Some t; schedule = schedule })) (sym (f ∙ ap (told brief w) e)) (idle schedule is end (truthful w schedule end))
 
 pub says_faulty : (brief : Bool) (text : List ℕ) (line : ℕ) (fault : Fault) (answer : Answer) (t : List ℕ) → length text ≤ limit → IsFirstFault text line fault → answer ≡ saying 3 t → t ≡ fault_line line fault → Says brief text answer
 says_faulty brief text line fault answer t b f e g = subst (Says brief text) (sym (e ∙ ap (saying 3) g)) (faulty line fault b f)
@@ -61,10 +52,10 @@ pub where_failed : {T P : Type 0} (r : Result T ReadError) → r ≡ Err errors.
 where_failed {T} {P} r e h = subst (λ (q : Result T ReadError). OnFailed q P) e h
 
 -- an answer that was found, or silence, where memory was refused
-pub settled_read : (brief : Bool) (source : Change) (text : List ℕ) (found : Result Answer NoMemory) (answer : Answer) → HasRead source.before source.after text → IfOk found (Says brief text) →
-    IfOk found (λ a. answer ≡ a) → OnErr found (answer ≡ silent 6) → Answers brief source answer
-settled_read brief source text (Ok a) answer h s f e = subst (Answers brief source) (sym f) (read text a h s)
-settled_read brief source text (Err x) answer h s f e = subst (Answers brief source) (sym e) no_memory
+pub settled_read : (most : ℕ) (Of : List ℕ → Answer → Type 0) (source : Change) (text : List ℕ) (found : Result Answer NoMemory) (answer : Answer) → HasRead most source.before source.after text → IfOk found (Of text) →
+    IfOk found (λ a. answer ≡ a) → OnErr found (answer ≡ silent 6) → OfText most Of source answer
+settled_read most Of source text (Ok a) answer h s f e = subst (OfText most Of source) (sym f) (read text a h s)
+settled_read most Of source text (Err x) answer h s f e = subst (OfText most Of source) (sym e) no_memory
 
 pub settled_usage : (words : List (List ℕ)) (source : Change) (found : Result Answer NoMemory) (answer : Answer) → command_of words ≡ None → source.after ≡ source.before → IfOk found (λ a. a ≡ saying 2 usage_line) →
     IfOk found (λ a. answer ≡ a) → OnErr found (answer ≡ silent 6) → Asked words source answer

@@ -1,24 +1,19 @@
--- What the program is to say, by its words and the bytes that it reads.
+-- What the command `run` is to say, by the bytes that it reads.
 use Rattle.std.specs.Prelude.{◌≡◌, ℕ, ◌+◌, ◌<◌, ◌≤◌, Bool, true, false, List, [], length, Option, Some, None}
 use Rattle.raid_base.specs.declared.report.Report.{Report}
 use Rattle.raid_tokens.specs.declared.fault.Fault.{Fault}
 use Rattle.raid_message.specs.declared.letter.Pick.{Pick}
 use Rattle.raid_workload.specs.declared.workload.Workload.{Workload}
 use Rattle.raid_text.specs.Outcome.{Reads, IsFirstFault}
-use Rattle.raid_text.specs.Spelling as texts
-use Rattle.raid_generator.specs.Made.{IsMade}
-use Rattle.raid_steps.specs.World.{run, report, rounds, is_idle}
+use Rattle.raid_steps.specs.World.{run, report, rounds, is_schedule, is_idle}
 use Rattle.raid_report.specs.Spelling.{print_of}
 use Rattle.raid_report.specs.Brief.{brief_of}
-use Rattle.raid_runs.specs.Upheld.{Upheld}
-use Rattle.raid_command.specs.declared.asked.Command.TheVariants as commands
-use Rattle.raid_command.specs.Asked.{command_of}
+use Rattle.raid_legal_runs.specs.Truthful.{Truthful}
 use Rattle.raid_io.specs.Ends.{Took, IsAtEnd}
 use Rattle.raid_io.specs.Faults.{Rose}
 use Rattle.raid_app.specs.declared.answer.Answer.{Answer}
 use Rattle.raid_app.specs.Change.{Change}
-use Rattle.raid_app.specs.Lines.{usage_line, too_long_line, fault_line}
-use Rattle.raid_app.specs.Picked.{IsRun}
+use Rattle.raid_app.specs.Lines.{too_long_line, fault_line}
 
 -- the most bytes that a text may have
 abbrev pub limit : ℕ
@@ -36,11 +31,11 @@ abbrev pub told : Bool → Workload → Report → List ℕ
 told true w r = brief_of w r
 told false w r = print_of w r
 
--- what is to be said of a workload whose servers were run in the fixed order: once no letter is left, what is written of its report, and
--- that is upheld; or nothing, as a letter is left after as many picks as the bound on a run
+-- what is to be said of a workload whose servers were run by a schedule: once no letter is left, what is written of its report, and that is
+-- truthful; or nothing, as a letter is left after at least as many picks as the bound on a run
 pub data Runs (brief : Bool) (w : Workload) : Answer → Type 0 where
-  idle : (schedule : List Pick) → IsRun w schedule → is_idle (run w schedule) ≡ true → Upheld w (report w (run w schedule).servers) → Runs brief w (record { status = 0; text = Some (told brief w (report w (run w schedule).servers)); schedule = schedule })
-  spent : (schedule : List Pick) → IsRun w schedule → length schedule ≡ rounds w → is_idle (run w schedule) ≡ false → Runs brief w (record { status = 7; text = None; schedule = schedule })
+  idle : (schedule : List Pick) → is_schedule w schedule ≡ true → is_idle (run w schedule) ≡ true → Truthful w (report w (run w schedule).servers) → Runs brief w (record { status = 0; text = Some (told brief w (report w (run w schedule).servers)); schedule = schedule })
+  spent : (schedule : List Pick) → is_schedule w schedule ≡ true → rounds w ≤ length schedule → is_idle (run w schedule) ≡ false → Runs brief w (record { status = 7; text = None; schedule = schedule })
 
 -- what is to be said of a text: that it is too long; what its first fault is; or what is to be said of the workload that it says
 pub data Says (brief : Bool) (text : List ℕ) : Answer → Type 0 where
@@ -48,23 +43,14 @@ pub data Says (brief : Bool) (text : List ℕ) : Answer → Type 0 where
   faulty : (line : ℕ) (fault : Fault) → length text ≤ limit → IsFirstFault text line fault → Says brief text (saying 3 (fault_line line fault))
   reads : (w : Workload) (answer : Answer) → length text ≤ limit → Reads text w → Runs brief w answer → Says brief text answer
 
--- the text was read from the source: to its end, or one byte past the limit
-pub record HasRead (before after : Option (List ℕ)) (text : List ℕ) : Type 0 where
+-- the text was read from the source: to its end, or one byte past the most that it may have
+pub record HasRead (most : ℕ) (before after : Option (List ℕ)) (text : List ℕ) : Type 0 where
   pub took : Took text before after
-  pub bound : length text ≤ limit + 1
-  pub whole : length text ≤ limit → IsAtEnd after
+  pub bound : length text ≤ most + 1
+  pub whole : length text ≤ most → IsAtEnd after
 
--- what is to be said by the command `run`: what is to be said of the text that was read from the source; or nothing, as the source failed
--- or memory was refused
-pub data Answers (brief : Bool) (source : Change) : Answer → Type 0 where
-  read : (text : List ℕ) (answer : Answer) → HasRead source.before source.after text → Says brief text answer → Answers brief source answer
-  unread : Rose source.faults source.faults_after → Answers brief source (silent 4)
-  no_memory : Answers brief source (silent 6)
-
--- what is to be said to these words: how the program is called, the workload that they make, or what the command `run` says; or nothing, as
--- memory was refused. All but `run` leave the source as it was
-pub data Asked (words : List (List ℕ)) (source : Change) : Answer → Type 0 where
-  usage : command_of words ≡ None → source.after ≡ source.before → Asked words source (saying 2 usage_line)
-  made : (seed count : ℕ) (w : Workload) → command_of words ≡ Some (commands.Make seed count) → source.after ≡ source.before → IsMade seed count w → Asked words source (saying 0 (texts.print_of w))
-  ran : (brief : Bool) (answer : Answer) → command_of words ≡ Some (commands.Run brief) → Answers brief source answer → Asked words source answer
-  no_memory : source.after ≡ source.before → Asked words source (silent 6)
+-- what is to be said of the text that was read from the source; or nothing, as the source failed or memory was refused
+pub data OfText (most : ℕ) (Of : List ℕ → Answer → Type 0) (source : Change) : Answer → Type 0 where
+  read : (text : List ℕ) (answer : Answer) → HasRead most source.before source.after text → Of text answer → OfText most Of source answer
+  unread : Rose source.faults source.faults_after → OfText most Of source (silent 4)
+  no_memory : OfText most Of source (silent 6)

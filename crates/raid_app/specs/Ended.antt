@@ -4,7 +4,7 @@ use Rattle.raid_message.specs.declared.letter.Pick.{Pick}
 use Rattle.raid_io.specs.Ends.{Gave, GavePart}
 use Rattle.raid_io.specs.Faults.{Rose}
 use Rattle.raid_app.specs.declared.answer.Answer.{Answer}
-use Rattle.raid_app.specs.Answer.{Asked}
+use Rattle.raid_app.specs.Asked.{Asked}
 use Rattle.raid_app.specs.Change.{Change}
 
 -- a text was written whole, with the status that goes with it; or the sink failed, and a front part was written

@@ -3,13 +3,15 @@ use Rattle.std.specs.Prelude.{ℕ, List, [], ◌∷◌, ◌++◌, codes}
 use Rattle.std.specs.Fmt.{decimal}
 use Rattle.raid_tokens.specs.declared.fault.Fault.{Fault}
 use Rattle.raid_tokens.specs.Fault.{number, word}
+use Rattle.raid_check.specs.declared.finding.Finding.{Finding}
+use Rattle.raid_check.specs.declared.finding.Finding.TheVariants.{Sound, Legal, Serial, Copies, Finished}
 
 abbrev pub line : List ℕ → List ℕ
 line text = text ++ 10 ∷ []
 
 -- how the program is called
 abbrev pub usage_line : List ℕ
-usage_line = line (codes "usage: raid run [--brief] | raid make --seed N --count N")
+usage_line = line (codes "usage: raid run [--brief] | raid make --seed N --count N | raid check")
 
 -- why a text was refused: it is too long, or what is wrong first and on which line
 abbrev pub too_long_line : List ℕ
@@ -17,3 +19,15 @@ too_long_line = line (codes "refused too long")
 
 abbrev pub fault_line : ℕ → Fault → List ℕ
 fault_line at fault = line (codes "refused line " ++ decimal at ++ codes " fault " ++ decimal (number fault) ++ 32 ∷ word fault)
+
+-- which line of a report doesn't fit
+abbrev pub unfit_line : ℕ → List ℕ
+unfit_line at = line (codes "refused report line " ++ decimal at)
+
+-- what was found of a report
+abbrev pub finding_line : Finding → List ℕ
+finding_line Sound = line (codes "sound")
+finding_line (Legal n) = line (codes "fails legal at " ++ decimal n)
+finding_line Serial = line (codes "fails serial")
+finding_line Copies = line (codes "fails copies")
+finding_line Finished = line (codes "fails finished")

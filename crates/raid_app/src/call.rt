@@ -2,12 +2,15 @@ ghost use Rattle.std.specs.Prelude.{◌≡◌, true};
 ghost use Rattle.raid_force.specs.Lasting.{AreClear, are_whole};
 ghost use Rattle.raid_app.specs.Ended.{Ends, Said, IsWritten};
 
-use crate::answer::{Answer, Schedule, answer_words};
+use crate::answer::{Answer, answer_words};
 use crate::statuses::UNWRITTEN;
 use raid_command::Words;
 use raid_control::{Controller, Rack};
 use raid_io::{Failed, Sink, Source, write_all};
+use raid_link::Gate;
+use raid_merge::Schedule;
 use std::alloc::Global;
+use std::thread::Threads;
 
 /// How a call of the program ended: its status, and the picks of the run that it made.
 #[derive(Drop, Debug)]
@@ -16,43 +19,47 @@ pub struct Ended {
     pub schedule: Schedule,
 }
 
-/// Does what the words ask for: `run` reads a workload text, runs its servers on one thread and writes the report, with `--brief` the
-/// summary; `make` writes a workload made from a seed.
+/// Does what the words ask for: `run` reads a workload text, runs its servers, each in a thread of its own, and writes the report, with
+/// `--brief` the summary; `make` writes a workload made from a seed; `check` reads a workload text with a report's text behind it, which
+/// begins with the first line that is exactly `report 1` or `report 2`, and writes what is found of the report.
 ///
 /// | status | comes | written |
 /// |---|---|---|
-/// | 0 | the command was done | the report, the summary or the made workload |
+/// | 0 | the command was done, and a report that was checked is sound | the report, the summary, the made workload, or `sound` |
 /// | 2 | exactly where the words are no command, and no fault of the sink came | the usage line |
-/// | 3 | exactly where the text is too long or has a fault, and no fault of the sink came | the refusal line |
+/// | 3 | exactly where a text is too long or has a fault, or a report's text a line that doesn't fit, and no fault of the sink came | the refusal line |
 /// | 4 | only where the source's count of faults rose in this call | nothing |
 /// | 5 | only where the sink's count of faults rose in this call | a front part of what was to be written |
 /// | 6 | memory was refused | nothing |
-/// | 7 | exactly where as many letters were taken as `rounds` has, and one is left | nothing |
+/// | 7 | only where at least as many letters were taken as `rounds` has, and one is left | nothing |
+/// | 8 | exactly where a report that was checked isn't sound, and no fault of the sink came | what fails first |
 ///
-/// Each "exactly" yields to want of memory, those of 2 and 3 to a failed write, those of 3 and 7 to a failed read.
+/// Each "exactly" yields to want of memory, those of 2, 3 and 8 to a failed write, those of 3 and 8 to a failed read.
 ///
-/// The rack has to be whole and its controllers cleared. In a run the next letter is always that to the least server, from its least
-/// sender, that waits; the schedule is the list of these picks. It is empty where no run was made, or memory was refused in it. `make` and
-/// words that are refused leave the source as it was. For status 0 of a run the source was read to its end.
+/// The rack has to be whole and its controllers cleared. The gate is called before each step of a run, and can hold a server up. The schedule is
+/// the list of the steps that the servers took, put in an order that agrees with their clocks: each finds its letter, and what they lead to is
+/// what the servers came to. It is empty where no run was made, or memory was refused in it. `make` and words that are refused leave the source
+/// as it was. For status 0 of a run, and for statuses 0 and 8 of a check, the source was read to its end.
 ///
-/// The report of such a run is upheld. Each entry of its history is the one that the rules force there, or else one that they let come, and a
-/// read or a commit has their answer: so each abort has the cause that they give, and that of a program which ends itself is how it ends on
-/// the reads that are told. Each commit is just what its program makes of the reads that it tells. Each switch aborted just those of its list;
-/// each action while two controllers were in force was granted by both; no read was granted at a copy that the history has locked; each stop and
-/// return was due; and the order lists each committed transaction once and no other, with each conflict leading onward. That the values read
-/// are those that the programs, run alone in that order, find there is no part of it.
-pub fn run<S: Source, K: Sink>(
+/// The report of such a run is truthful. Its history is legal: each entry is the one that the rules force there, or else one that they let come,
+/// so each abort has the one cause that they give. The committed transactions, run alone one after another in the order told, read what their
+/// commits tell, write what they tell, and leave the final values. Each switch aborted just those of its list; each action while two controllers
+/// were in force was granted by both; and no read was granted at a copy that the history has locked. Each copy is told, and each at an up
+/// site that isn't locked has its item's final value. That nothing is left to do is no part of it.
+pub fn run<R: Threads + Sync, S: Source, K: Sink, G: Gate>(
+    rt: &R,
     alloc: Global,
     words: &Words,
     source: &mut S,
     sink: &mut K,
     rack: Rack,
+    gate: &G,
 ) -> Ended
     requires whole { are_whole ⟦<dyn Controller as Controller>⟧ rack.slots.items ≡ true }
     requires clear { AreClear ⟦<dyn Controller as Controller>⟧ rack.slots.items }
     ensures ended { Ends words.now (record { before = S.left source.old; after = S.left source.new; faults = S.faults source.old; faults_after = S.faults source.new }) (record { before = K.held sink.old; after = K.held sink.new; faults = K.faults sink.old; faults_after = K.faults sink.new }) result.schedule result.status }
 {
-    let answer = answer_words(alloc, words, source, rack);
+    let answer = answer_words(rt, alloc, words, source, rack, gate);
     say(sink, answer)
 }
 

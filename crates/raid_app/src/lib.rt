@@ -3,10 +3,12 @@
 
 pub mod answer;
 pub mod call;
+pub mod check;
+pub mod input;
 pub mod lines;
 pub mod running;
 pub mod statuses;
 
-pub use answer::Schedule;
 pub use call::{Ended, run};
 pub use raid_command::Words;
+pub use raid_merge::Schedule;

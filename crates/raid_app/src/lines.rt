@@ -4,11 +4,13 @@ ghost use Rattle.raid_app.specs.Lines as lines;
 
 use itoa::Buffer;
 use raid_base::{Bytes, NoMemory};
+use raid_check::Finding;
 use raid_tokens::Fault;
 use std::alloc::Global;
 
 /// How the program is called.
-pub const USAGE_LINE: &[u8] = b"usage: raid run [--brief] | raid make --seed N --count N\n";
+pub const USAGE_LINE: &[u8] =
+    b"usage: raid run [--brief] | raid make --seed N --count N | raid check\n";
 
 /// What is said of a text of more bytes than there may be.
 pub const TOO_LONG_LINE: &[u8] = b"refused too long\n";
@@ -34,5 +36,35 @@ pub fn copied(alloc: Global, bytes: &[u8]) -> Result<Bytes, NoMemory>
 {
     let mut text = Bytes::new(alloc);
     text.push_all(bytes)?;
+    Ok(text)
+}
+
+/// The line that refuses a report: its first line that doesn't fit, counted from 1.
+pub fn unfit_line(alloc: Global, line: u32) -> Result<Bytes, NoMemory>
+    ensures { IfOk result (λ text. text ≡ lines.unfit_line line) }
+{
+    numbered(alloc, b"refused report line ", line)
+}
+
+/// The line that tells what was found of a report.
+pub fn finding_line(alloc: Global, finding: Finding) -> Result<Bytes, NoMemory>
+    ensures { IfOk result (λ text. text ≡ lines.finding_line finding) }
+{
+    match finding {
+        Finding::Sound => copied(alloc, b"sound\n"),
+        Finding::Legal(number) => numbered(alloc, b"fails legal at ", number),
+        Finding::Serial => copied(alloc, b"fails serial\n"),
+        Finding::Copies => copied(alloc, b"fails copies\n"),
+        Finding::Finished => copied(alloc, b"fails finished\n"),
+    }
+}
+
+/// A line that ends in a number.
+fn numbered(alloc: Global, words: &[u8], number: u32) -> Result<Bytes, NoMemory>
+    ensures { IfOk result (λ text. text ≡ lines.line (words.now ++ decimal number)) }
+{
+    let mut text = copied(alloc, words)?;
+    text.push_all(Buffer::new().format(number).as_bytes())?;
+    text.push_all(b"\n")?;
     Ok(text)
 }

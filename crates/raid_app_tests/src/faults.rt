@@ -7,6 +7,7 @@ use std::test::Fail;
 #[test]
 fn a_failed_read_leaves_nothing_written(rt: HostRuntime) -> Result<(), Fail> {
     let told = told(
+        &rt,
         rt.alloc(),
         "run",
         ADDS.as_bytes(),
@@ -25,6 +26,7 @@ fn every_read_fails_in_turn(rt: HostRuntime) -> Result<(), Fail> {
     // The 107 bytes take eleven calls, and a twelfth finds the end: a failure in a thirteenth never comes.
     for call in 1..=13 {
         let told = told(
+            &rt,
             rt.alloc(),
             "run",
             ADDS.as_bytes(),
@@ -43,6 +45,7 @@ fn every_write_fails_in_turn(rt: HostRuntime) -> Result<(), Fail> {
     // The 154 bytes take sixteen calls: a failure in a seventeenth never comes. The run is made all the same.
     for call in 1..=17 {
         let told = told(
+            &rt,
             rt.alloc(),
             "run",
             ADDS.as_bytes(),
@@ -63,7 +66,7 @@ fn every_write_fails_in_turn(rt: HostRuntime) -> Result<(), Fail> {
 
 #[test]
 fn a_failed_write_hides_a_refusal(rt: HostRuntime) -> Result<(), Fail> {
-    let told = told(rt.alloc(), "runs", b"", Way::Whole, Way::Failing(2))?;
+    let told = told(&rt, rt.alloc(), "runs", b"", Way::Whole, Way::Failing(2))?;
     assert_eq!(rt; told.status, 5);
     assert_eq!(rt; told.written(), &USAGE.as_bytes()[..10]);
     Ok(())

@@ -9,7 +9,7 @@ const ITEMS: u32 = 40;
 const PROGRAMS: u32 = 200;
 
 /// Each program takes 5 from one item and adds it to the one seven further on.
-fn moves(alloc: Global) -> Result<String, AllocError> {
+pub fn moves(alloc: Global) -> Result<String, AllocError> {
     let mut text = String::from_str(alloc, "workload 1\nsites 3 together 4\n")?;
     for item in 0..ITEMS {
         write!(text, "item b{item:02} 1000 at 1 2 3\n")?;
@@ -38,6 +38,7 @@ fn moves(alloc: Global) -> Result<String, AllocError> {
 fn two_hundred_programs_end_and_keep_the_sum(rt: HostRuntime) -> Result<(), Fail> {
     let text = moves(rt.alloc())?;
     let told = told(
+        &rt,
         rt.alloc(),
         "run --brief",
         text.as_bytes(),

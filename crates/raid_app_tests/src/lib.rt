@@ -5,9 +5,13 @@
 #[cfg(test)]
 mod faults;
 #[cfg(test)]
+mod judging;
+#[cfg(test)]
 mod large;
 #[cfg(test)]
 mod making;
+#[cfg(test)]
+mod meeting;
 #[cfg(test)]
 mod refusals;
 #[cfg(test)]

@@ -15,7 +15,14 @@ const TAIL: &str =
 #[test]
 fn a_seed_makes_its_program_and_reads_nothing(rt: HostRuntime) -> Result<(), Fail> {
     let line = "make --seed 1 --count 1";
-    let told = told(rt.alloc(), line, ADDS.as_bytes(), Way::Whole, Way::Whole)?;
+    let told = told(
+        &rt,
+        rt.alloc(),
+        line,
+        ADDS.as_bytes(),
+        Way::Whole,
+        Way::Whole,
+    )?;
     assert_eq!(rt; told.status, 0);
     assert!(rt; told.written().starts_with(HEAD.as_bytes()));
     assert!(rt; told.written().ends_with(TAIL.as_bytes()));
@@ -27,13 +34,13 @@ fn a_seed_makes_its_program_and_reads_nothing(rt: HostRuntime) -> Result<(), Fai
 #[test]
 fn each_spelling_makes_the_same(rt: HostRuntime) -> Result<(), Fail> {
     let line = "make --seed=1 --count 1";
-    let first = told(rt.alloc(), line, b"", Way::Whole, Way::Whole)?;
+    let first = told(&rt, rt.alloc(), line, b"", Way::Whole, Way::Whole)?;
     assert!(rt; first.written().ends_with(TAIL.as_bytes()));
     for line in [
         "make --count 1 --seed 000000001",
         "make --count=000000001 --seed=1",
     ] {
-        let told = told(rt.alloc(), line, b"", Way::Whole, Way::Whole)?;
+        let told = told(&rt, rt.alloc(), line, b"", Way::Whole, Way::Whole)?;
         assert_eq!(rt; told.status, 0, "{line}");
         assert_eq!(rt; told.written(), first.written(), "{line}");
     }
@@ -43,9 +50,10 @@ fn each_spelling_makes_the_same(rt: HostRuntime) -> Result<(), Fail> {
 #[test]
 fn two_thousand_made_programs_all_end(rt: HostRuntime) -> Result<(), Fail> {
     let line = "make --seed 1 --count 2000";
-    let made = told(rt.alloc(), line, b"", Way::Whole, Way::Whole)?;
+    let made = told(&rt, rt.alloc(), line, b"", Way::Whole, Way::Whole)?;
     assert_eq!(rt; made.status, 0);
     let told = told(
+        &rt,
         rt.alloc(),
         "run --brief",
         made.written(),

@@ -5,6 +5,7 @@ use crate::told::{Outcome, Way, told};
 use raid_base::NoMemory;
 use std::alloc::Global;
 use std::test::Fail;
+use std::thread::Threads;
 
 /// The most bytes that a text may have.
 const MOST: usize = 4_194_304;
@@ -46,17 +47,29 @@ const LENGTHS: [(usize, u8, &str, &str); 3] = [
 ];
 
 /// Runs a text behind a comment, which makes it `length` bytes long.
-fn told_behind_a_comment(alloc: Global, text: &str, length: usize) -> Result<Outcome, NoMemory> {
+fn told_behind_a_comment<R: Threads + Sync>(
+    rt: &R,
+    alloc: Global,
+    text: &str,
+    length: usize,
+) -> Result<Outcome, NoMemory> {
     let mut bytes = vec![in alloc; b'#'; length.saturating_sub(text.len() + 1)]?;
     bytes.push(b'\n')?;
     bytes.extend_from_slice(text.as_bytes())?;
-    told(alloc, "run", bytes.as_slice(), Way::Whole, Way::Whole)
+    told(rt, alloc, "run", bytes.as_slice(), Way::Whole, Way::Whole)
 }
 
 #[test]
 fn the_first_fault_is_named(rt: HostRuntime) -> Result<(), Fail> {
     for (text, line) in REFUSED {
-        let told = told(rt.alloc(), "run", text.as_bytes(), Way::Whole, Way::Whole)?;
+        let told = told(
+            &rt,
+            rt.alloc(),
+            "run",
+            text.as_bytes(),
+            Way::Whole,
+            Way::Whole,
+        )?;
         assert_eq!(rt; told.status, 3, "{line}");
         assert_eq!(rt; told.written(), line.as_bytes());
         assert!(rt; told.picks.is_empty(), "{line}");
@@ -67,7 +80,7 @@ fn the_first_fault_is_named(rt: HostRuntime) -> Result<(), Fail> {
 #[test]
 fn no_more_is_read_than_shows_that_a_text_is_too_long(rt: HostRuntime) -> Result<(), Fail> {
     for (length, status, written, left) in LENGTHS {
-        let told = told_behind_a_comment(rt.alloc(), NOTHING, length)?;
+        let told = told_behind_a_comment(&rt, rt.alloc(), NOTHING, length)?;
         assert_eq!(rt; told.status, status, "{length}");
         assert_eq!(rt; told.written(), written.as_bytes(), "{length}");
         assert_eq!(rt; told.left(), left.as_bytes(), "{length}");

@@ -1,13 +1,13 @@
-//! Workloads whose reports are worked out by hand, but for those of two sites, which are the reference model's.
+//! Workloads whose reports are worked out by hand, but for that of two sites, which is the reference model's. Each has one report, whatever the
+//! order in which its servers take letters.
 
 use crate::texts::{ADDED, ADDS, NOTHING, NOTHING_DONE};
 use crate::told::{Way, called, told};
 use raid_io::{PlainSink, PlainSource};
-use raid_message::Pick;
 use std::test::Fail;
 
 /// Words, a text, and what is written then.
-const RUNS: [(&str, &str, &str); 10] = [
+const RUNS: [(&str, &str, &str); 9] = [
     ("run", NOTHING, NOTHING_DONE),
     ("run", ADDS, ADDED),
     // The summary counts and sums.
@@ -48,33 +48,22 @@ const RUNS: [(&str, &str, &str); 10] = [
         "workload 1\nsites 2 together 1\nitem x 5 at 2\nopen lock native\nprogram 1\nread x r0\nwrite x r0 + 1\nend\ndone\n",
         "report 1\n1 begin t1 at s1\n2 read t1 x at s2\n3 commit t1 reads x=5 writes x=6 under 1,1 applied s2\n4 ack t1 s2\norder t1\nfinal x 6\ncopy s2 x 6 3\ndone\n",
     ),
-    // A copy that has missed a write is renewed after the return: in the fixed order of picks the site stops behind the second commit,
-    // before it has applied the first.
-    (
-        "run",
-        "workload 1\nsites 2 together 1\nitem x 0 at 1 2\nopen lock native\nstop 2 after 1\nreturn 2 after 2\nprogram 1\nwrite x 1\nend\nprogram 1\nread x r0\nend\ndone\n",
-        "report 1\n1 begin t1 at s1\n2 commit t1 reads - writes x=1 under 1,1 applied s1,s2\n3 ack t1 s1\n4 begin t2 at s1\n5 read t2 x at s1\n6 commit t2 reads x=1 writes - under 1,1 applied -\n7 down s2\n8 up s2 session 2\n9 clear s2 x at 2\norder t1 t2\nfinal x 1\ncopy s1 x 1 2\ncopy s2 x 1 2\ndone\n",
-    ),
 ];
 
-/// The picks of the run that adds 5: each the server that takes a letter, and the one that it is from. Server 0 is the monitor, 1 the
-/// sequencer, and 2 the site.
-const PICKS: [(u16, u16); 9] = [
-    (2, 1),
-    (1, 2),
-    (1, 2),
-    (2, 1),
-    (1, 2),
-    (0, 1),
-    (2, 1),
-    (1, 2),
-    (2, 1),
-];
+/// How many letters the servers take in the run that adds 5.
+const STEPS: usize = 9;
 
 #[test]
 fn each_text_has_its_report(rt: HostRuntime) -> Result<(), Fail> {
     for (line, text, report) in RUNS {
-        let told = told(rt.alloc(), line, text.as_bytes(), Way::Whole, Way::Whole)?;
+        let told = told(
+            &rt,
+            rt.alloc(),
+            line,
+            text.as_bytes(),
+            Way::Whole,
+            Way::Whole,
+        )?;
         assert_eq!(rt; told.status, 0, "{report}");
         assert_eq!(rt; told.written(), report.as_bytes());
         assert!(rt; told.left().is_empty());
@@ -83,19 +72,11 @@ fn each_text_has_its_report(rt: HostRuntime) -> Result<(), Fail> {
 }
 
 #[test]
-fn the_picks_are_those_of_the_least_servers(rt: HostRuntime) -> Result<(), Fail> {
-    let told = told(rt.alloc(), "run", ADDS.as_bytes(), Way::Whole, Way::Whole)?;
-    let picks = PICKS.map(|(server, from)| Pick { server, from });
-    assert_eq!(rt; told.picks.as_slice(), picks.as_slice());
-    Ok(())
-}
-
-#[test]
 fn ends_that_never_fail_serve_as_well(rt: HostRuntime) -> Result<(), Fail> {
     let mut source = PlainSource::new(rt.alloc(), ADDS.as_bytes())?;
     let mut sink = PlainSink::new();
-    let ended = called(rt.alloc(), "run", &mut source, &mut sink)?;
+    let ended = called(&rt, rt.alloc(), "run", &mut source, &mut sink)?;
     assert_eq!(rt; ended.status, 0);
-    assert_eq!(rt; ended.schedule.len(), PICKS.len());
+    assert_eq!(rt; ended.schedule.len(), STEPS);
     Ok(())
 }

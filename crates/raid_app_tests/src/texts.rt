@@ -15,4 +15,4 @@ pub const ADDED: &str =
     "report 1\n1 begin t1 at s1\n2 read t1 a at s1\n3 commit t1 reads a=100 writes a=105 under 1 applied s1\n4 ack t1 s1\norder t1\nfinal a 105\ncopy s1 a 105 3\ndone\n";
 
 /// How the program is called.
-pub const USAGE: &str = "usage: raid run [--brief] | raid make --seed N --count N\n";
+pub const USAGE: &str = "usage: raid run [--brief] | raid make --seed N --count N | raid check\n";

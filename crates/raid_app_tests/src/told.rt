@@ -4,10 +4,12 @@ use raid_app::{Ended, Schedule, Words, run};
 use raid_base::NoMemory;
 use raid_full_rack::{Controllers, full_rack};
 use raid_io::{MemorySink, MemorySource, Sink, Source, read_up_to};
+use raid_link::{Gate, Open};
 use std::alloc::Global;
+use std::thread::Threads;
 
 /// More bytes than any text here has.
-const ROOM: usize = 5_000_000;
+const ROOM: usize = 17_000_000;
 
 /// How many bytes are given or taken in a call, where one of the calls fails.
 const PIECE: usize = 10;
@@ -65,12 +67,14 @@ fn sink(alloc: Global, way: Way) -> Result<MemorySink, NoMemory> {
     }
 }
 
-/// Makes the call between any two ends, with the controllers that the program has.
-pub fn called<S: Source, K: Sink>(
+/// Makes the call between any two ends, with the controllers that the program has, at a gate.
+pub fn called_at<R: Threads + Sync, S: Source, K: Sink, G: Gate>(
+    rt: &R,
     alloc: Global,
     line: &str,
     source: &mut S,
     sink: &mut K,
+    gate: &G,
 ) -> Result<Ended, NoMemory> {
     let words = words(alloc, line)?;
     let made = Controllers::new(alloc)?;
@@ -83,11 +87,23 @@ pub fn called<S: Source, K: Sink>(
         made.first,
         made.second,
     )?;
-    Ok(run(alloc, &words, source, sink, rack))
+    Ok(run(rt, alloc, &words, source, sink, rack, gate))
+}
+
+/// Makes the call between any two ends, with nobody held up.
+pub fn called<R: Threads + Sync, S: Source, K: Sink>(
+    rt: &R,
+    alloc: Global,
+    line: &str,
+    source: &mut S,
+    sink: &mut K,
+) -> Result<Ended, NoMemory> {
+    called_at(rt, alloc, line, source, sink, &Open)
 }
 
 /// Makes the call with the words of a line, over a text in memory.
-pub fn told(
+pub fn told<R: Threads + Sync>(
+    rt: &R,
     alloc: Global,
     line: &str,
     text: &[u8],
@@ -96,7 +112,7 @@ pub fn told(
 ) -> Result<Outcome, NoMemory> {
     let mut source = source(alloc, text, giving)?;
     let mut sink = sink(alloc, taking)?;
-    let Ended { status, schedule } = called(alloc, line, &mut source, &mut sink)?;
+    let Ended { status, schedule } = called(rt, alloc, line, &mut source, &mut sink)?;
     let left = match read_up_to(alloc, &mut source, ROOM) {
         Ok(left) => left,
         Err(_) => Vec::new(alloc),

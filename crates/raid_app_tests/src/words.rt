@@ -5,7 +5,7 @@ use crate::told::{Way, told};
 use std::test::Fail;
 
 /// Lines of words, each with a space between any two.
-const REFUSED: [&str; 26] = [
+const REFUSED: [&str; 30] = [
     "",
     "--",
     "--help",
@@ -32,12 +32,23 @@ const REFUSED: [&str; 26] = [
     "make --seed -- --count 1",
     "make --seed --count 1",
     "make --se 1 --cou 1",
+    "check --",
+    "check --brief",
+    "check check",
+    "checks",
 ];
 
 #[test]
 fn other_words_are_told_the_usage_and_read_nothing(rt: HostRuntime) -> Result<(), Fail> {
     for line in REFUSED {
-        let told = told(rt.alloc(), line, ADDS.as_bytes(), Way::Whole, Way::Whole)?;
+        let told = told(
+            &rt,
+            rt.alloc(),
+            line,
+            ADDS.as_bytes(),
+            Way::Whole,
+            Way::Whole,
+        )?;
         assert_eq!(rt; told.status, 2, "{line}");
         assert_eq!(rt; told.written(), USAGE.as_bytes(), "{line}");
         assert_eq!(rt; told.left(), ADDS.as_bytes(), "{line}");
@@ -49,6 +60,7 @@ fn other_words_are_told_the_usage_and_read_nothing(rt: HostRuntime) -> Result<()
 #[test]
 fn a_source_that_would_fail_is_not_asked(rt: HostRuntime) -> Result<(), Fail> {
     let told = told(
+        &rt,
         rt.alloc(),
         "run --",
         ADDS.as_bytes(),

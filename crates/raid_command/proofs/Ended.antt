@@ -3,7 +3,7 @@ use Rattle.std.proofs.Common.{◌≡◌, ◌∙◌, ◌∷◌, ◌++◌, ◌||�
 use Rattle.std.specs.List.{flat_map}
 use Rattle.std.specs.Str.{bytes_eq}
 use Rattle.raid_command.specs.declared.asked.Command.{Command}
-use Rattle.raid_command.specs.Asked.{Word, command_of, made, make_of, options_of, run_of, spread}
+use Rattle.raid_command.specs.Asked.{Word, check_of, command_of, made, make_of, options_of, run_of, spread}
 use Rattle.raid_command.specs.Options.{has_end_of_options}
 use Rattle.raid_command.proofs.Split.{same_word}
 use Rattle.raid_command.proofs.MakeWords.{hyphen_no_number, made_left, made_right}
@@ -82,11 +82,16 @@ options_ended (a ∷ b ∷ c ∷ d ∷ []) e =
     ]
 options_ended (a ∷ b ∷ c ∷ d ∷ x ∷ rest) e = refl
 
-pick : (t u : Bool) (x y : Option Command) → x ≡ None → y ≡ None → cond t x (cond u y None) ≡ None
-pick true u x y a b = a
-pick false true x y a b = b
-pick false false x y a b = refl
+check_ended : (words : List Word) → has_end_of_options words ≡ true → check_of words ≡ None
+check_ended [] e = absurd (true≢false (sym e))
+check_ended (x ∷ xs) e = refl
+
+pick : (t : Bool) (x y : Option Command) → x ≡ None → y ≡ None → cond t x y ≡ None
+pick true x y a b = a
+pick false x y a b = b
 
 pub command_ended : (word : Word) (words : List Word) → has_end_of_options words ≡ true → command_of (word ∷ words) ≡ None
 command_ended word words e =
-    pick (bytes_eq word (codes "run")) (bytes_eq word (codes "make")) (run_of words) (make_of words) (run_ended words e) (options_ended (flat_map spread words) (spread_ended words e))
+    pick (bytes_eq word (codes "run")) (run_of words) _ (run_ended words e)
+    (pick (bytes_eq word (codes "make")) (make_of words) _ (options_ended (flat_map spread words) (spread_ended words e))
+    (pick (bytes_eq word (codes "check")) (check_of words) None (check_ended words e) refl))

@@ -5,7 +5,7 @@ use Rattle.std.specs.Char.{is_ascii_digit}
 use Rattle.std.specs.Str.{bytes_eq}
 use Rattle.std.specs.Str.Parse.{digits_value}
 use Rattle.raid_command.specs.declared.asked.Command.{Command}
-use Rattle.raid_command.specs.declared.asked.Command.TheVariants.{Run, Make}
+use Rattle.raid_command.specs.declared.asked.Command.TheVariants.{Run, Make, Check}
 
 -- a word of the command line, as its bytes
 abbrev pub Word : Type 0
@@ -57,9 +57,14 @@ options_of _ = None
 abbrev pub make_of : List Word → Option Command
 make_of words = options_of (flat_map spread words)
 
+-- nothing follows `check`
+abbrev pub check_of : List Word → Option Command
+check_of [] = Some Check
+check_of (word ∷ words) = None
+
 -- what the words of a command line ask for, if they are one of its forms
 abbrev pub command_of : List Word → Option Command
 command_of [] = None
 command_of (word ∷ words) =
     if bytes_eq word (codes "run") then run_of words
-    else (if bytes_eq word (codes "make") then make_of words else None)
+    else (if bytes_eq word (codes "make") then make_of words else (if bytes_eq word (codes "check") then check_of words else None))

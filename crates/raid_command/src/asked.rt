@@ -5,4 +5,6 @@ pub enum Command {
     Run { brief: bool },
     /// Make a workload of `count` programs, 1 to 2,000, from the seed, at most 999,999,999.
     Make { seed: u32, count: u32 },
+    /// Judge the report that is read behind its workload.
+    Check,
 }

@@ -1,6 +1,6 @@
 ghost use Rattle.std.specs.Prelude.{◌≡◌, false, IfOk, map};
 ghost use Rattle.std.specs.String.{string_bytes};
-ghost use Rattle.raid_command.specs.Asked.{command_of, make_of, run_of};
+ghost use Rattle.raid_command.specs.Asked.{check_of, command_of, make_of, run_of};
 ghost use Rattle.raid_command.specs.Options.{has_end_of_options};
 
 use crate::asked::Command;
@@ -40,9 +40,20 @@ fn make(alloc: Global, words: &[String]) -> Result<Option<Command>, NoMemory>
     Ok(made(matches.get_str("seed"), matches.get_str("count")))
 }
 
-/// What the words of a command line ask for. None exactly where they are none of the forms `run`, `run --brief`
-/// and `make` with `--seed N` and `--count N`, each once, in either order, as `--seed N` or `--seed=N`. A seed is
-/// 1 to 9 decimal digits, and a count is such a number from 1 to 2,000. Want of memory is the only error.
+/// What the words behind `check` ask for.
+fn check(words: &[String]) -> Option<Command>
+    ensures { result ≡ check_of (map string_bytes words.now) }
+{
+    if words.is_empty() {
+        Some(Command::Check)
+    } else {
+        None
+    }
+}
+
+/// What the words of a command line ask for. None exactly where they are none of the forms `run`, `run --brief`,
+/// `check`, and `make` with `--seed N` and `--count N`, each once, in either order, as `--seed N` or `--seed=N`. A
+/// seed is 1 to 9 decimal digits, and a count is such a number from 1 to 2,000. Want of memory is the only error.
 pub fn command(alloc: Global, words: &Words) -> Result<Option<Command>, NoMemory>
     ensures { IfOk result (λ c. c ≡ command_of words.now) }
 {
@@ -55,6 +66,7 @@ pub fn command(alloc: Global, words: &Words) -> Result<Option<Command>, NoMemory
     match first.as_str() {
         "run" => run(alloc, others),
         "make" => make(alloc, others),
+        "check" => Ok(check(others)),
         _ => Ok(None),
     }
 }

@@ -37,6 +37,15 @@ fn run_with_anything_else_is_refused(rt: HostRuntime) {
 }
 
 #[test]
+fn check_with_nothing_behind_it(rt: HostRuntime) {
+    assert!(rt; asked(rt.alloc(), "check") == Ok(Some(Command::Check)));
+    assert!(rt; asked(rt.alloc(), "check --brief") == Ok(None));
+    assert!(rt; asked(rt.alloc(), "check --") == Ok(None));
+    assert!(rt; asked(rt.alloc(), "check check") == Ok(None));
+    assert!(rt; asked(rt.alloc(), "Check") == Ok(None));
+}
+
+#[test]
 fn another_first_word_is_refused(rt: HostRuntime) {
     assert!(rt; asked(rt.alloc(), "") == Ok(None));
     assert!(rt; asked(rt.alloc(), "--help") == Ok(None));

@@ -3,6 +3,10 @@
 //!
 //! Each schedule is taken by a new world. Each of its picks has to find a letter, and no letter may be left behind the last, but where
 //! the line says so. A schedule that ends otherwise is named, with what came of it.
+//!
+//! With the word `fixed` it reads workloads alone, runs each in the fixed order, always the least server that has a letter, from the least sender
+//! that it has one from, and prints the report. The program `raid` runs each server in a thread of its own, so what it prints may differ from call
+//! to call; this report doesn't, and tests that compare bytes take it.
 #![tactic(auto)]
 
 mod picks;
@@ -13,8 +17,8 @@ use anyhow::{Result, bail};
 use picks::picks;
 use raid_letter_lines::Text;
 use raid_workload::Workload;
-use running::{End, run_schedule};
-use std::mem;
+use running::{End, run_fixed, run_schedule};
+use std::{env, mem};
 use tally::Tally;
 
 /// What has been read: the workload, the report that its schedules are to lead to, and the counts.
@@ -99,7 +103,48 @@ impl Table {
     }
 }
 
+/// The word with which workloads are run in the fixed order.
+const FIXED: &str = "fixed";
+
+/// Whether the program was called with that word.
+fn is_fixed(rt: &HostRuntime) -> Result<bool> {
+    for word in env::args(rt)?.skip(1) {
+        if word.as_str() == FIXED {
+            return Ok(true);
+        }
+    }
+    Ok(false)
+}
+
+/// Prints the report of a run of the workload in the fixed order.
+fn print_fixed(rt: &HostRuntime, text: &Text) -> Result<()> {
+    let Ok(workload) = raid_text::parse(rt.alloc(), text.as_bytes()?) else {
+        bail!("no workload text");
+    };
+    let report = run_fixed(rt.alloc(), &workload)?;
+    if let Ok(report) = str::from_utf8(report.as_slice()) {
+        print!(rt; "{report}")?;
+    }
+    Ok(())
+}
+
+/// Prints the report of each workload that is read.
+fn print_all_fixed(rt: &HostRuntime) -> Result<()> {
+    let mut text = Text::new(rt.alloc());
+    for line in rt.lines(rt.alloc()) {
+        let line = line?;
+        if text.add(line.as_str())? {
+            print_fixed(rt, &text)?;
+            text = Text::new(rt.alloc());
+        }
+    }
+    Ok(())
+}
+
 fn main(rt: HostRuntime) -> Result<()> {
+    if is_fixed(&rt)? {
+        return print_all_fixed(&rt);
+    }
     let mut table = Table {
         text: Text::new(rt.alloc()),
         workload: None,

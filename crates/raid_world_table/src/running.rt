@@ -1,6 +1,6 @@
 //! A schedule that a new world takes.
 
-ghost use Rattle.std.specs.Prelude.{◌≡◌, true, OnOk};
+ghost use Rattle.std.specs.Prelude.{◌≡◌, true, IfOk, OnOk};
 ghost use Rattle.raid_force.specs.Lasting.{AreClear, are_whole};
 ghost use Rattle.raid_world_table.specs.Reached.{Reached};
 
@@ -58,6 +58,21 @@ fn take_all(
     Ok(None)
 }
 
+/// Lets the servers take letters in the fixed order, always the least server that has one, from the least sender that it has one from, until
+/// no letter is left.
+fn take_in_order(alloc: Global, workload: &Workload, world: &mut World) -> Result<()>
+    requires { Reached ⟦<dyn Controller as Controller>⟧ workload.now world.old }
+    ensures { OnOk result (Reached ⟦<dyn Controller as Controller>⟧ workload.now world.new) }
+{
+    for _ in 0..MOST {
+        let Some(pick) = world.first() else {
+            return Ok(());
+        };
+        take(alloc, workload, world, pick)?;
+    }
+    bail!("the run doesn't end");
+}
+
 /// The print of the world's report.
 fn told(alloc: Global, workload: &Workload, world: &World) -> Result<Bytes>
     requires { Reached ⟦<dyn Controller as Controller>⟧ workload.now world.now }
@@ -84,10 +99,23 @@ fn run(alloc: Global, workload: &Workload, rack: Rack, picks: &[Pick]) -> Result
     Ok(End::Told { is_left, text })
 }
 
-/// What comes of the picks in a new world.
-pub fn run_schedule(alloc: Global, workload: &Workload, picks: &[Pick]) -> Result<End> {
+/// The print of the report of a run in the fixed order, with this rack.
+fn run_in_order(alloc: Global, workload: &Workload, rack: Rack) -> Result<Bytes>
+    requires whole { are_whole ⟦<dyn Controller as Controller>⟧ rack.slots.items ≡ true }
+    requires clear { AreClear ⟦<dyn Controller as Controller>⟧ rack.slots.items }
+{
+    let mut world = World::new(alloc, workload, PLACES, rack)?;
+    take_in_order(alloc, workload, &mut world)?;
+    told(alloc, workload, &world)
+}
+
+/// A rack with controllers of every kind.
+fn new_rack(alloc: Global) -> Result<Rack>
+    ensures whole { IfOk result (λ rack. are_whole ⟦<dyn Controller as Controller>⟧ rack.slots.items ≡ true) }
+    ensures clear { IfOk result (λ rack. AreClear ⟦<dyn Controller as Controller>⟧ rack.slots.items) }
+{
     let made = Controllers::new(alloc)?;
-    let rack = full_rack(
+    Ok(full_rack(
         alloc,
         made.lock,
         made.stamp,
@@ -95,6 +123,17 @@ pub fn run_schedule(alloc: Global, workload: &Workload, picks: &[Pick]) -> Resul
         made.graph,
         made.first,
         made.second,
-    )?;
+    )?)
+}
+
+/// What comes of the picks in a new world.
+pub fn run_schedule(alloc: Global, workload: &Workload, picks: &[Pick]) -> Result<End> {
+    let rack = new_rack(alloc)?;
     run(alloc, workload, rack, picks)
+}
+
+/// The print of the report of a run in the fixed order.
+pub fn run_fixed(alloc: Global, workload: &Workload) -> Result<Bytes> {
+    let rack = new_rack(alloc)?;
+    run_in_order(alloc, workload, rack)
 }

@@ -1,5 +1,5 @@
 use Rattle.std.proofs.Common.{Some, ap, ◌∙◌, subst, sym, refl}
-use Rattle.raid_app.specs.Answer.{Asked, ran, no_memory}
+use Rattle.raid_app.specs.Asked.{Asked, ran, judged, no_memory}
 use Rattle.raid_app.proofs.Counts.{count_in_range}
 use Rattle.raid_app.proofs.Sayings.{settled_made, settled_usage}
 use Rattle.raid_app.proofs.answer.answer_words.Goals as goal
@@ -23,6 +23,11 @@ pub returns-in-Ok-Some-Make : goal.returns-in-Ok-Some-Make
 returns-in-Ok-Some-Make g c =
     let m = c.in-Ok-Some-Make in
     settled_made c.args.words.now _ m.seed m.count c.answer_make.result c.settled.result (sym m.ensures ∙ m.field-0-is ∙ ap Some m.field-0-0-is) refl c.answer_make.ensures c.settled.ensures.found c.settled.ensures.refused
+
+pub returns-in-Ok-Some-Check : goal.returns-in-Ok-Some-Check
+returns-in-Ok-Some-Check g c =
+    let k = c.in-Ok-Some-Check in
+    judged c.answer_check.result (sym k.ensures ∙ k.field-0-is ∙ ap Some k.field-0-0-is) c.answer_check.ensures
 
 pub returns-in-Ok-None : goal.returns-in-Ok-None
 returns-in-Ok-None g c =

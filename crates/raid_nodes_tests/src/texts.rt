@@ -1,0 +1,24 @@
+//! Workloads.
+
+use raid_base::NoMemory;
+use raid_workload::Workload;
+use std::alloc::Global;
+
+/// The most bytes that a text may have.
+const MOST: usize = 1_000_000;
+
+/// The workload of the text. Where it is none, memory is said to be refused.
+pub fn workload(alloc: Global, text: &str) -> Result<Workload, NoMemory> {
+    if text.len() > MOST {
+        return Err(NoMemory);
+    }
+    raid_text::parse(alloc, text.as_bytes()).map_err(|_| NoMemory)
+}
+
+/// Two sites, with one program each.
+pub const TWO: &str =
+    "workload 1\nsites 2 together 2\nitem x 0 at 1 2\nitem y 0 at 1 2\nopen lock native\nprogram 1\nwrite x 1\nend\nprogram 2\nwrite y 2\nend\ndone\n";
+
+/// One site with one program, which adds 5 to an item.
+pub const ADDS: &str =
+    "workload 1\nsites 1 together 1\nitem a 100 at 1\nopen lock native\nprogram 1\nread a r0\nwrite a r0 + 5\nend\ndone\n";
