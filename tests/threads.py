@@ -1,4 +1,4 @@
-"""Runs workloads of all forms on threads, each several times, and has the reference model judge each report.
+"""Runs workloads of all forms on threads, each several times, and has the reference model and `raid check` judge each report.
 
 The workloads are those of runs.py. Threads get on as they will, so a workload of several sites has many reports. Each has to be sound, and the
 count of different ones is told, for all workloads and for the one that has most.
@@ -26,6 +26,14 @@ def reports_of(program, text, count):
     return seen
 
 
+def judged(program, text, report):
+    """What the model and `raid check` say of the report, where it isn't that it is sound."""
+    if report is None:
+        return "no report"
+    said = oracle.judged("check", text + report), run([program, "check"], text + report)
+    return None if said == ((0, "sound\n"), (0, b"sound\n")) else said
+
+
 def main():
     program, count, times = sys.argv[1], int(sys.argv[2]), int(sys.argv[3])
     seed = int(sys.argv[4]) if len(sys.argv) > 4 else 1
@@ -37,10 +45,10 @@ def main():
         seen = reports_of(program, text, times)
         reports, most = reports + len(seen), max(most, len(seen))
         for report in seen:
-            judged = oracle.judged("check", text + report) if report is not None else "no report"
-            if judged != (0, "sound\n"):
+            said = judged(program, text, report)
+            if said is not None:
                 failed += 1
-                print(f"workload {k}: judged {judged}\n{text.decode()}--- program\n{(report or b'').decode()}")
+                print(f"workload {k}: judged {said}\n{text.decode()}--- program\n{(report or b'').decode()}")
     print(f"threads: {count * times} runs of {count} workloads: {reports} different reports, of one workload {most} at most; {failed} aren't sound")
     return 1 if failed else 0
 
