@@ -3,10 +3,11 @@ use Rattle.std.proofs.Common.{◌≡◌, ◌∙◌, ◌∷◌, ◌++◌, ◌||�
 use Rattle.std.specs.List.{flat_map}
 use Rattle.std.specs.Str.{bytes_eq}
 use Rattle.raid_command.specs.declared.asked.Command.{Command}
-use Rattle.raid_command.specs.Asked.{Word, check_of, command_of, made, make_of, options_of, run_of, spread}
+use Rattle.raid_command.specs.Asked.{Word, advise_of, advised, check_of, command_of, last_of, made, make_of, options_of, run_of, spread}
 use Rattle.raid_command.specs.Options.{has_end_of_options}
 use Rattle.raid_command.proofs.Split.{same_word}
 use Rattle.raid_command.proofs.MakeWords.{hyphen_no_number, made_left, made_right}
+use Rattle.raid_command.proofs.LastWords.{value_no_number}
 
 abbrev end : Word
 end = codes "--"
@@ -82,6 +83,24 @@ options_ended (a ∷ b ∷ c ∷ d ∷ []) e =
     ]
 options_ended (a ∷ b ∷ c ∷ d ∷ x ∷ rest) e = refl
 
+-- ---- behind `advise` and `check`
+
+last_ended : (pieces : List Word) → has_end_of_options pieces ≡ true → last_of pieces ≡ None
+last_ended [] e = refl
+last_ended (a ∷ []) e = refl
+last_ended (a ∷ b ∷ []) e = elim (either (bytes_eq a end) _ e) [
+  | inl is ↦ ap (λ y. last_of (y ∷ b ∷ [])) (same_word a end is)
+  | inr later ↦ elim (either (bytes_eq b end) false later) [
+    | inl is ↦ ap (λ y. last_of (a ∷ y ∷ [])) (same_word b end is) ∙ no_value (bytes_eq a (codes "--last"))
+    | inr wrong ↦ absurd (true≢false (sym wrong))
+  ]
+]
+  where
+    no_value : (t : Bool) → cond t (advised end) None ≡ None
+    no_value true = value_no_number end (hyphen_no_number (45 ∷ []))
+    no_value false = refl
+last_ended (a ∷ b ∷ c ∷ rest) e = refl
+
 check_ended : (words : List Word) → has_end_of_options words ≡ true → check_of words ≡ None
 check_ended [] e = absurd (true≢false (sym e))
 check_ended (x ∷ xs) e = refl
@@ -94,4 +113,5 @@ pub command_ended : (word : Word) (words : List Word) → has_end_of_options wor
 command_ended word words e =
     pick (bytes_eq word (codes "run")) (run_of words) _ (run_ended words e)
     (pick (bytes_eq word (codes "make")) (make_of words) _ (options_ended (flat_map spread words) (spread_ended words e))
-    (pick (bytes_eq word (codes "check")) (check_of words) None (check_ended words e) refl))
+    (pick (bytes_eq word (codes "check")) (check_of words) _ (check_ended words e)
+    (pick (bytes_eq word (codes "advise")) (advise_of words) None (last_ended (flat_map spread words) (spread_ended words e)) refl)))

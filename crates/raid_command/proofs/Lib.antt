@@ -1,8 +1,11 @@
 pub mod Split
 pub mod Walks
 pub mod Longs
+pub mod Forms
 pub mod MakeWords
 pub mod MakeForms
 pub mod Made
 pub mod Ran
+pub mod LastWords
+pub mod Advised
 pub mod Ended

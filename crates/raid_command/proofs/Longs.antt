@@ -9,7 +9,7 @@ use Rattle.clap.specs.Walk.{Held, Outcome, Row, Rule, Text, Waiting, after_flag,
 use Rattle.clap.specs.Simple.{Shape}
 use Rattle.clap.specs.Faults.{bundle_fault, bundle_step_fault, flag_word_fault, flags_fault, long_fault, other_fault, short_fault, word_fault}
 use Rattle.clap.specs.declared.error.kind.ErrorKind.TheVariants as kind
-use Rattle.raid_command.specs.Asked.{Word, is_equals_sign, spread}
+use Rattle.raid_command.specs.Asked.{Word, is_equals_sign}
 use Rattle.raid_command.proofs.Walks.{HasLongsAlone, IsPlain, IsRefused}
 
 abbrev held : List Row → Option (Text × List Text) → Held
@@ -99,12 +99,5 @@ plain_hyphen s = plain_word_is s (45 ∷ []) refl refl refl
 pub plain_other : (s : Shape) (a : ℕ) (t : Word) → (a == 45) ≡ false → IsPlain s (a ∷ t)
 plain_other s a t isnt = plain_word_is s (a ∷ t) (rw isnt refl) (rw isnt refl) (rw isnt refl)
 
-pub other_spread : (a : ℕ) (t : Word) → (a == 45) ≡ false → spread (a ∷ t) ≡ (a ∷ t) ∷ []
-other_spread a [] isnt = refl
-other_spread a (b ∷ u) isnt = rw isnt refl
-
 pub short_form : (s : Shape) (b : ℕ) (u : Word) → (b == 45) ≡ false → HasLongsAlone s → IsRefused s (45 ∷ b ∷ u) ⊎ IsPlain s (45 ∷ b ∷ u)
 short_form s b u isnt longs = bundle_form s (45 ∷ b ∷ u) (rw isnt refl) (rw isnt refl) b u (rw isnt refl) longs
-
-pub short_spread : (b : ℕ) (u : Word) → (b == 45) ≡ false → spread (45 ∷ b ∷ u) ≡ (45 ∷ b ∷ u) ∷ []
-short_spread b u isnt = rw isnt refl

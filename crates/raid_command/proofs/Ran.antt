@@ -1,6 +1,6 @@
 -- What `clap` finds behind `run` is what the words ask for.
-use Rattle.std.proofs.Common.{◌≡◌, ◌∙◌, ◌∷◌, ◌++◌, ◌==◌, inl, inr, ℕ, Bool, List, [], true, false, true≢false, refl, sym, ap, Option, Some, None, codes, subst}
-use Rattle.std.specs.List.{after_first, before_first, list_any}
+use Rattle.std.proofs.Common.{◌≡◌, ◌∙◌, ◌∷◌, ◌++◌, ℕ, Bool, List, [], true, false, true≢false, refl, sym, ap, Option, Some, None, codes, subst}
+use Rattle.std.specs.List.{before_first, list_any}
 use Rattle.std.specs.Str.{bytes_eq}
 use Rattle.clap.specs.Values.{bool_text}
 use Rattle.clap.specs.Walk.{Row, Text, Walk, arg_by_long, idle, one_of, rows_of}
@@ -15,9 +15,10 @@ use Rattle.clap.proofs.WalkLemmas.{one_text-rows}
 use Rattle.raid_command.specs.declared.asked.Command.TheVariants.{Run}
 use Rattle.raid_command.specs.Asked.{Word, is_equals_sign, run_of}
 use Rattle.raid_command.specs.Options.{has_end_of_options, rows_read, run_app}
-use Rattle.raid_command.proofs.Split.{bytes_eq_sym, is_eq, no_sign, or_false, same_word, split_at_sign}
+use Rattle.raid_command.proofs.Split.{bytes_eq_sym, no_sign, or_false, same_word}
 use Rattle.raid_command.proofs.Walks.{HasLongsAlone, IsPlain, IsRefused, at, found_from, found_read, steps, stops, stops_plain, stops_refused}
-use Rattle.raid_command.proofs.Longs.{plain_empty, plain_hyphen, plain_other, refuses_long, short_form}
+use Rattle.raid_command.proofs.Longs.{refuses_long}
+use Rattle.raid_command.proofs.Forms as forms
 
 abbrev run_top : Shape
 run_top = (built run_app).top
@@ -50,10 +51,6 @@ module _ (x : ℕ) (xs : Word) where
   abbrev name : Word
   name = before_first is_equals_sign t
 
-  known : codes "brief" ≡ name → (has : Bool) → list_any is_equals_sign t ≡ has → Form (45 ∷ 45 ∷ t)
-  known same true e = subst Form (sym (ap (λ (z : Word). 45 ∷ 45 ∷ z) (split_at_sign t e ∙ ap (λ n. n ++ (61 ∷ after_first is_equals_sign t)) (sym same)))) (with_value (after_first is_equals_sign t))
-  known same false e = flag (ap (λ (z : Word). 45 ∷ 45 ∷ z) (sym (no_sign t e) ∙ sym same))
-
   unknown : bytes_eq (codes "brief") name ≡ false → arg_by_long run_top.rules name ≡ None
   unknown e = rw e refl
 
@@ -67,34 +64,20 @@ module _ (x : ℕ) (xs : Word) where
   differs e false has = bytes_eq_sym t (codes "brief") ∙ ap (bytes_eq (codes "brief")) (sym (no_sign t has)) ∙ e
 
   long_form : Form (45 ∷ 45 ∷ t)
-  long_form = go (bytes_eq (codes "brief") name) refl
+  long_form = go (forms.naming (codes "brief") t)
     where
-      go : (s : Bool) → bytes_eq (codes "brief") name ≡ s → Form (45 ∷ 45 ∷ t)
-      go true e = known (same_word (codes "brief") name e) (list_any is_equals_sign t) refl
-      go false e = refused (45 ∷ 45 ∷ t) (refuses_long run_top x xs (unknown e)) (differs e (list_any is_equals_sign t) refl)
-
-short : (b : ℕ) (u : Word) → (b == 45) ≡ false → Form (45 ∷ b ∷ u)
-short b u isnt = elim (short_form run_top b u isnt longs) [
-  | inl r ↦ refused (45 ∷ b ∷ u) r (rw isnt refl)
-  | inr p ↦ stray (45 ∷ b ∷ u) p (rw isnt refl)
-]
-
-hyphened : (t : Word) → bytes_eq (45 ∷ t) (codes "--") ≡ false → Form (45 ∷ t)
-hyphened [] e = stray (45 ∷ []) (plain_hyphen run_top) refl
-hyphened (b ∷ u) e = go (b == 45) refl u e
-  where
-    go : (d : Bool) → (b == 45) ≡ d → (u : Word) → bytes_eq (45 ∷ b ∷ u) (codes "--") ≡ false → Form (45 ∷ b ∷ u)
-    go false isnt u e = short b u isnt
-    go true is [] e = let ends : bytes_eq (45 ∷ 45 ∷ []) (codes "--") ≡ false = subst (λ y. bytes_eq (45 ∷ y ∷ []) (codes "--") ≡ false) (is_eq b 45 is) e in absurd (true≢false ends)
-    go true is (x ∷ xs) e = subst (λ y. Form (45 ∷ y ∷ x ∷ xs)) (sym (is_eq b 45 is)) (long_form x xs)
+      go : forms.Naming (codes "brief") t → Form (45 ∷ 45 ∷ t)
+      go (forms.joined v is) = subst Form (sym (ap (λ (z : Word). 45 ∷ 45 ∷ z) is)) (with_value v)
+      go (forms.named is) = flag (ap (λ (z : Word). 45 ∷ 45 ∷ z) is)
+      go (forms.unknown e) = refused (45 ∷ 45 ∷ t) (refuses_long run_top x xs (unknown e)) (differs e (list_any is_equals_sign t) refl)
 
 form_of : (w : Word) → bytes_eq w (codes "--") ≡ false → Form w
-form_of [] e = stray [] (plain_empty run_top) refl
-form_of (a ∷ t) e = go (a == 45) refl
+form_of w e = go (forms.form_of run_top longs w e)
   where
-    go : (d : Bool) → (a == 45) ≡ d → Form (a ∷ t)
-    go false isnt = stray (a ∷ t) (plain_other run_top a t isnt) (rw isnt refl)
-    go true is = subst (λ y. Form (y ∷ t)) (sym (is_eq a 45 is)) (hyphened t (subst (λ y. bytes_eq (y ∷ t) (codes "--") ≡ false) (is_eq a 45 is) e))
+    go : forms.Form run_top w → Form w
+    go (forms.long x xs is) = subst Form (sym is) (long_form x xs)
+    go (forms.refused u is r none) = refused w r (forms.no_name w (codes "brief") none)
+    go (forms.plain p none) = stray w p (forms.no_name w (codes "brief") none)
 
 -- ---- the words
 

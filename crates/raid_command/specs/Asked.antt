@@ -5,7 +5,7 @@ use Rattle.std.specs.Char.{is_ascii_digit}
 use Rattle.std.specs.Str.{bytes_eq}
 use Rattle.std.specs.Str.Parse.{digits_value}
 use Rattle.raid_command.specs.declared.asked.Command.{Command}
-use Rattle.raid_command.specs.declared.asked.Command.TheVariants.{Run, Make, Check}
+use Rattle.raid_command.specs.declared.asked.Command.TheVariants.{Run, Make, Check, Advise}
 
 -- a word of the command line, as its bytes
 abbrev pub Word : Type 0
@@ -62,9 +62,24 @@ abbrev pub check_of : List Word → Option Command
 check_of [] = Some Check
 check_of (word ∷ words) = None
 
+-- what the word of a count of ends asks for
+abbrev pub advised : Word → Option Command
+advised last = if is_count last then Some (Advise (digits_value 10 last)) else None
+
+-- one option, a name and its value, is a count of ends
+abbrev pub last_of : List Word → Option Command
+last_of (name ∷ value ∷ []) = if bytes_eq name (codes "--last") then advised value else None
+last_of _ = None
+
+-- `advise` is followed by its option, in two words or in one
+abbrev pub advise_of : List Word → Option Command
+advise_of words = last_of (flat_map spread words)
+
 -- what the words of a command line ask for, if they are one of its forms
 abbrev pub command_of : List Word → Option Command
 command_of [] = None
 command_of (word ∷ words) =
     if bytes_eq word (codes "run") then run_of words
-    else (if bytes_eq word (codes "make") then make_of words else (if bytes_eq word (codes "check") then check_of words else None))
+    else (if bytes_eq word (codes "make") then make_of words
+    else (if bytes_eq word (codes "check") then check_of words
+    else (if bytes_eq word (codes "advise") then advise_of words else None)))

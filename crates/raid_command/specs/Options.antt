@@ -6,7 +6,7 @@ use Rattle.clap.specs.Walk.{Row, Rule, is_empty}
 use Rattle.clap.specs.Simple.{App, matches_of, new_app, new_rule, with_rule}
 use Rattle.clap.specs.Faults.{fault_of}
 use Rattle.clap.specs.declared.builder.action.ArgAction.TheVariants.{SetTrue}
-use Rattle.raid_command.specs.Asked.{Word, made}
+use Rattle.raid_command.specs.Asked.{Word, advised, made}
 use Rattle.raid_command.specs.declared.asked.Command.{Command}
 
 -- a command with no option, not even `--help`, whose words begin behind the program's name
@@ -29,6 +29,10 @@ run_app = with_rule (bare (codes "run")) brief_rule
 abbrev pub make_app : App
 make_app = with_rule (with_rule (bare (codes "make")) (needed_rule (codes "seed"))) (needed_rule (codes "count"))
 
+-- what has to follow `advise`
+abbrev pub advise_app : App
+advise_app = with_rule (bare (codes "advise")) (needed_rule (codes "last"))
+
 -- what `clap` finds in the words, or None where it refuses them
 abbrev pub rows_read : App → List Word → Option (List Row)
 rows_read app words = if is_empty (fault_of app words) then Some (matches_of app words) else None
@@ -42,3 +46,8 @@ abbrev pub made_from : Option Word → Option Word → Option Command
 made_from (Some seed) (Some count) = made seed count
 made_from (Some seed) None = None
 made_from None count = None
+
+-- what the value that was found asks for
+abbrev pub advised_from : Option Word → Option Command
+advised_from (Some last) = advised last
+advised_from None = None

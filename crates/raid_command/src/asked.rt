@@ -7,4 +7,7 @@ pub enum Command {
     Make { seed: u32, count: u32 },
     /// Judge the report that is read behind its workload.
     Check,
+    /// Judge it too, and where it is sound say which switch its entries with the last so many ends speak for,
+    /// 1 to 2,000 of them.
+    Advise { last: u32 },
 }

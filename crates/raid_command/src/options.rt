@@ -2,7 +2,7 @@
 ghost use Rattle.std.specs.Prelude.{◌≡◌, true, IfOk, map, option_map};
 ghost use Rattle.std.specs.String.{string_bytes};
 ghost use Rattle.clap.specs.Words.{app_of, found_of, is_simple_and_free, rows_of};
-ghost use Rattle.raid_command.specs.Options.{bare, make_app, rows_read, run_app};
+ghost use Rattle.raid_command.specs.Options.{advise_app, bare, make_app, rows_read, run_app};
 
 use clap::error::ErrorKind;
 use clap::{Arg, ArgAction, ArgMatches};
@@ -35,6 +35,14 @@ pub(crate) fn of_make<'a>(alloc: Global) -> Result<clap::Command<'a>, NoMemory>
     let seed = Arg::new(alloc, "seed").long("seed").required(true);
     let count = Arg::new(alloc, "count").long("count").required(true);
     Ok(bare(alloc, "make").arg(seed)?.arg(count)?)
+}
+
+/// What has to follow `advise`.
+pub(crate) fn of_advise<'a>(alloc: Global) -> Result<clap::Command<'a>, NoMemory>
+    ensures { IfOk result (λ c. app_of c ≡ advise_app) }
+{
+    let last = Arg::new(alloc, "last").long("last").required(true);
+    Ok(bare(alloc, "advise").arg(last)?)
 }
 
 /// What `clap` finds in the words, or None where it refuses them.

@@ -1,10 +1,10 @@
 ghost use Rattle.std.specs.Prelude.{◌≡◌, false, IfOk, map};
 ghost use Rattle.std.specs.String.{string_bytes};
-ghost use Rattle.raid_command.specs.Asked.{check_of, command_of, make_of, run_of};
+ghost use Rattle.raid_command.specs.Asked.{advise_of, check_of, command_of, make_of, run_of};
 ghost use Rattle.raid_command.specs.Options.{has_end_of_options};
 
 use crate::asked::Command;
-use crate::number::made;
+use crate::number::{advised, made};
 use crate::options;
 use crate::words::Words;
 use raid_base::NoMemory;
@@ -51,9 +51,21 @@ fn check(words: &[String]) -> Option<Command>
     }
 }
 
+/// What the words behind `advise` ask for.
+fn advise(alloc: Global, words: &[String]) -> Result<Option<Command>, NoMemory>
+    requires { has_end_of_options (map string_bytes words.now) ≡ false }
+    ensures { IfOk result (λ c. c ≡ advise_of (map string_bytes words.now)) }
+{
+    let Some(matches) = options::read(options::of_advise(alloc)?, words)? else {
+        return Ok(None);
+    };
+    Ok(advised(matches.get_str("last")))
+}
+
 /// What the words of a command line ask for. None exactly where they are none of the forms `run`, `run --brief`,
-/// `check`, and `make` with `--seed N` and `--count N`, each once, in either order, as `--seed N` or `--seed=N`. A
-/// seed is 1 to 9 decimal digits, and a count is such a number from 1 to 2,000. Want of memory is the only error.
+/// `check`, `make` with `--seed N` and `--count N`, and `advise` with `--last N`: each option once, in any order,
+/// as `--seed N` or `--seed=N`. A seed is 1 to 9 decimal digits; a count, and what `--last` has, is such a number
+/// from 1 to 2,000. Want of memory is the only error.
 pub fn command(alloc: Global, words: &Words) -> Result<Option<Command>, NoMemory>
     ensures { IfOk result (λ c. c ≡ command_of words.now) }
 {
@@ -67,6 +79,7 @@ pub fn command(alloc: Global, words: &Words) -> Result<Option<Command>, NoMemory
         "run" => run(alloc, others),
         "make" => make(alloc, others),
         "check" => Ok(check(others)),
+        "advise" => advise(alloc, others),
         _ => Ok(None),
     }
 }

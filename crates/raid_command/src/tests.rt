@@ -46,6 +46,37 @@ fn check_with_nothing_behind_it(rt: HostRuntime) {
 }
 
 #[test]
+fn advise_in_each_spelling(rt: HostRuntime) {
+    let five = Ok(Some(Command::Advise { last: 5 }));
+    assert!(rt; asked(rt.alloc(), "advise --last 5") == five);
+    assert!(rt; asked(rt.alloc(), "advise --last=5") == five);
+    assert!(rt; asked(rt.alloc(), "advise --last 000000005") == five);
+    let most = Ok(Some(Command::Advise { last: 2000 }));
+    assert!(rt; asked(rt.alloc(), "advise --last 2000") == most);
+}
+
+#[test]
+fn advise_without_its_option_once_is_refused(rt: HostRuntime) {
+    assert!(rt; asked(rt.alloc(), "advise") == Ok(None));
+    assert!(rt; asked(rt.alloc(), "advise --last") == Ok(None));
+    assert!(rt; asked(rt.alloc(), "advise --last=") == Ok(None));
+    assert!(rt; asked(rt.alloc(), "advise --last 0") == Ok(None));
+    assert!(rt; asked(rt.alloc(), "advise --last 2001") == Ok(None));
+    assert!(rt; asked(rt.alloc(), "advise --last -1") == Ok(None));
+    assert!(rt; asked(rt.alloc(), "advise --last 0000000001") == Ok(None));
+    assert!(rt; asked(rt.alloc(), "advise --last x") == Ok(None));
+    assert!(rt; asked(rt.alloc(), "advise --last 5 --last 5") == Ok(None));
+    assert!(rt; asked(rt.alloc(), "advise --last=5 --last=5") == Ok(None));
+    assert!(rt; asked(rt.alloc(), "advise --last 5 5") == Ok(None));
+    assert!(rt; asked(rt.alloc(), "advise 5") == Ok(None));
+    assert!(rt; asked(rt.alloc(), "advise -- --last 5") == Ok(None));
+    assert!(rt; asked(rt.alloc(), "advise --la 5") == Ok(None));
+    assert!(rt; asked(rt.alloc(), "advise --count 5") == Ok(None));
+    assert!(rt; asked(rt.alloc(), "advise --last 5 --seed 1") == Ok(None));
+    assert!(rt; asked(rt.alloc(), "Advise --last 5") == Ok(None));
+}
+
+#[test]
 fn another_first_word_is_refused(rt: HostRuntime) {
     assert!(rt; asked(rt.alloc(), "") == Ok(None));
     assert!(rt; asked(rt.alloc(), "--help") == Ok(None));
