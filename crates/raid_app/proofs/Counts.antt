@@ -5,8 +5,8 @@ use Rattle.std.specs.Str.Parse.{digits_value}
 use Rattle.std.specs.List.{flat_map}
 use Rattle.std.proofs.lemmas.Bool.{and_parts, leb-true}
 use Rattle.raid_command.specs.declared.asked.Command.{Command}
-use Rattle.raid_command.specs.declared.asked.Command.TheVariants.{Run, Make, Check}
-use Rattle.raid_command.specs.Asked.{Word, check_of, command_of, make_of, made, options_of, run_of, is_number, is_count, spread}
+use Rattle.raid_command.specs.declared.asked.Command.TheVariants.{Run, Make, Check, Advise}
+use Rattle.raid_command.specs.Asked.{Word, advise_of, advised, check_of, command_of, last_of, make_of, made, options_of, run_of, is_number, is_count, spread}
 
 -- 1 to 2,000
 pub record IsCount (n : ℕ) : Type 0 where
@@ -19,6 +19,7 @@ HasCount None = Unit {0}
 HasCount (Some (Run brief)) = Unit {0}
 HasCount (Some (Make seed count)) = IsCount count
 HasCount (Some Check) = Unit {0}
+HasCount (Some (Advise last)) = Unit {0}
 
 if_has : (b : Bool) (c d : Option Command) → HasCount c → HasCount d → HasCount (if b then c else d)
 if_has true c d h k = h
@@ -59,13 +60,21 @@ unfolding HasCount
 check_has [] = tt
 check_has (word ∷ words) = tt
 
+last_has : (words : List Word) → HasCount (last_of words)
+unfolding HasCount
+last_has [] = tt
+last_has (name ∷ []) = tt
+last_has (name ∷ value ∷ []) = if_has (bytes_eq name (codes "--last")) (advised value) None (if_has (is_count value) (Some (Advise (digits_value 10 value))) None tt tt) tt
+last_has (name ∷ value ∷ more ∷ words) = tt
+
 command_has : (words : List Word) → HasCount (command_of words)
 unfolding HasCount
 command_has [] = tt
 command_has (word ∷ words) =
     if_has (bytes_eq word (codes "run")) (run_of words) _ (run_has words)
     (if_has (bytes_eq word (codes "make")) (make_of words) _ (options_has (flat_map spread words))
-    (if_has (bytes_eq word (codes "check")) (check_of words) None (check_has words) tt))
+    (if_has (bytes_eq word (codes "check")) (check_of words) _ (check_has words)
+    (if_has (bytes_eq word (codes "advise")) (advise_of words) None (last_has (flat_map spread words)) tt)))
 
 -- words that ask to make a workload give a count in range
 pub count_in_range : (words : List Word) (seed count : ℕ) → command_of words ≡ Some (Make seed count) → IsCount count

@@ -1,7 +1,10 @@
+pub mod Advise
 pub mod Answer
 pub mod Asked
 pub mod Change
 pub mod Check
 pub mod Ended
 pub mod Input
+pub mod Judged
 pub mod Lines
+pub mod Wanted

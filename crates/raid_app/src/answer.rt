@@ -7,10 +7,11 @@ ghost use Rattle.raid_app.specs.Answer.{OfText, Says, limit, saying, silent};
 ghost use Rattle.raid_app.specs.Asked.{Asked};
 ghost use Rattle.raid_app.specs.Lines.{too_long_line, usage_line};
 
-use crate::check::answer_check;
+use crate::judging::answer_judged;
 use crate::lines::{TOO_LONG_LINE, USAGE_LINE, copied, fault_line};
 use crate::running::run_workload;
 use crate::statuses::{DONE, NO_MEMORY, REFUSED, UNREAD, USAGE};
+use crate::wanted::Wanted;
 use raid_base::{Bytes, NoMemory};
 use raid_command::{Command, Words, command};
 use raid_control::{Controller, Rack};
@@ -165,7 +166,7 @@ fn answer_source<R: Threads + Sync, S: Source, G: Gate>(
     }
 }
 
-/// What is to be said to these words. Only the commands `run` and `check` read the source.
+/// What is to be said to these words. Of the commands only `make` doesn't read the source.
 pub fn answer_words<R: Threads + Sync, S: Source, G: Gate>(
     rt: &R,
     alloc: Global,
@@ -183,7 +184,10 @@ pub fn answer_words<R: Threads + Sync, S: Source, G: Gate>(
         Ok(Some(Command::Make { seed, count })) => {
             Answer::settled(alloc, answer_make(alloc, seed, count))
         }
-        Ok(Some(Command::Check)) => answer_check(alloc, source, rack),
+        Ok(Some(Command::Check)) => answer_judged(alloc, Wanted::Soundness, source, rack),
+        Ok(Some(Command::Advise { last })) => {
+            answer_judged(alloc, Wanted::Advice { last }, source, rack)
+        }
         Ok(None) => Answer::settled(alloc, Answer::usage(alloc)),
         Err(NoMemory) => Answer::silent(alloc, NO_MEMORY),
     }

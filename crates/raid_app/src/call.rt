@@ -21,25 +21,27 @@ pub struct Ended {
 
 /// Does what the words ask for: `run` reads a workload text, runs its servers, each in a thread of its own, and writes the report, with
 /// `--brief` the summary; `make` writes a workload made from a seed; `check` reads a workload text with a report's text behind it, which
-/// begins with the first line that is exactly `report 1` or `report 2`, and writes what is found of the report.
+/// begins with the first line that is exactly `report 1` or `report 2`, and writes what is found of the report; `advise` reads the same, and where
+/// the report is sound writes the switch that its entries with the last ends speak for, as many as `--last` says: `keep`, or the line that the
+/// workload's text is to get.
 ///
 /// | status | comes | written |
 /// |---|---|---|
-/// | 0 | the command was done, and a report that was checked is sound | the report, the summary, the made workload, or `sound` |
+/// | 0 | the command was done, and a report that was judged is sound | the report, the summary, the made workload, `sound`, or the advice |
 /// | 2 | exactly where the words are no command, and no fault of the sink came | the usage line |
 /// | 3 | exactly where a text is too long or has a fault, or a report's text a line that doesn't fit, and no fault of the sink came | the refusal line |
 /// | 4 | only where the source's count of faults rose in this call | nothing |
 /// | 5 | only where the sink's count of faults rose in this call | a front part of what was to be written |
 /// | 6 | memory was refused | nothing |
 /// | 7 | only where at least as many letters were taken as `rounds` has, and one is left | nothing |
-/// | 8 | exactly where a report that was checked isn't sound, and no fault of the sink came | what fails first |
+/// | 8 | exactly where a report that was judged isn't sound, and no fault of the sink came | what fails first |
 ///
 /// Each "exactly" yields to want of memory, those of 2, 3 and 8 to a failed write, those of 3 and 8 to a failed read.
 ///
 /// The rack has to be whole and its controllers cleared. The gate is called before each step of a run, and can hold a server up. The schedule is
 /// the list of the steps that the servers took, put in an order that agrees with their clocks: each finds its letter, and what they lead to is
 /// what the servers came to. It is empty where no run was made, or memory was refused in it. `make` and words that are refused leave the source
-/// as it was. For status 0 of a run, and for statuses 0 and 8 of a check, the source was read to its end.
+/// as it was. For status 0 of a run, and for statuses 0 and 8 of `check` and `advise`, the source was read to its end.
 ///
 /// The report of such a run is truthful. Its history is legal: each entry is the one that the rules force there, or else one that they let come,
 /// so each abort has the one cause that they give. The committed transactions, run alone one after another in the order told, read what their

@@ -3,11 +3,12 @@
 
 pub mod answer;
 pub mod call;
-pub mod check;
 pub mod input;
+pub mod judging;
 pub mod lines;
 pub mod running;
 pub mod statuses;
+pub mod wanted;
 
 pub use call::{Ended, run};
 pub use raid_command::Words;

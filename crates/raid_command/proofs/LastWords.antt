@@ -1,5 +1,5 @@
 -- What the option of `advise` asks for, where it is wrong.
-use Rattle.std.proofs.Common.{◌≡◌, ◌∷◌, ◌++◌, ◌&&◌, Bool, List, [], true, false, refl, Some, None, cond, codes}
+use Rattle.std.proofs.Common.{◌≡◌, ◌∷◌, ◌++◌, ◌&&◌, Bool, List, [], true, false, refl, None, cond, codes}
 use Rattle.std.specs.List.{after_first, before_first, list_any}
 use Rattle.std.specs.Str.{bytes_eq}
 use Rattle.raid_command.specs.Asked.{Word, advised, begins_with_hyphens, is_equals_sign, is_number, last_of, spread}

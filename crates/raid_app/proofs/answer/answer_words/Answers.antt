@@ -1,5 +1,5 @@
 use Rattle.std.proofs.Common.{Some, ap, ◌∙◌, subst, sym, refl}
-use Rattle.raid_app.specs.Asked.{Asked, ran, judged, no_memory}
+use Rattle.raid_app.specs.Asked.{Asked, ran, judged, advised, no_memory}
 use Rattle.raid_app.proofs.Counts.{count_in_range}
 use Rattle.raid_app.proofs.Sayings.{settled_made, settled_usage}
 use Rattle.raid_app.proofs.answer.answer_words.Goals as goal
@@ -27,7 +27,12 @@ returns-in-Ok-Some-Make g c =
 pub returns-in-Ok-Some-Check : goal.returns-in-Ok-Some-Check
 returns-in-Ok-Some-Check g c =
     let k = c.in-Ok-Some-Check in
-    judged c.answer_check.result (sym k.ensures ∙ k.field-0-is ∙ ap Some k.field-0-0-is) c.answer_check.ensures
+    judged c.answer_judged.result (sym k.ensures ∙ k.field-0-is ∙ ap Some k.field-0-0-is) c.answer_judged.ensures
+
+pub returns-in-Ok-Some-Advise : goal.returns-in-Ok-Some-Advise
+returns-in-Ok-Some-Advise g c =
+    let a = c.in-Ok-Some-Advise in
+    advised a.last c.answer_judged-in-Ok-Some-Advise.result (sym a.ensures ∙ a.field-0-is ∙ ap Some a.field-0-0-is) c.answer_judged-in-Ok-Some-Advise.ensures
 
 pub returns-in-Ok-None : goal.returns-in-Ok-None
 returns-in-Ok-None g c =
