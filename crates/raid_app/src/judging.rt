@@ -86,12 +86,7 @@ fn answer_texts(
 }
 
 /// What is to be said of an input.
-fn answer_input(
-    alloc: Global,
-    wanted: Wanted,
-    input: &[u8],
-    rack: Rack,
-) -> Result<Answer, NoMemory>
+fn answer_input(alloc: Global, wanted: Wanted, input: &[u8], rack: Rack) -> Result<Answer, NoMemory>
     requires whole { are_whole ⟦<dyn Controller as Controller>⟧ rack.slots.items ≡ true }
     requires clear { AreClear ⟦<dyn Controller as Controller>⟧ rack.slots.items }
     ensures { IfOk result (JudgesInput (told_of wanted) input.now) }

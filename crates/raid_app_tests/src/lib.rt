@@ -3,6 +3,8 @@
 #![tactic(auto)]
 
 #[cfg(test)]
+mod advising;
+#[cfg(test)]
 mod faults;
 #[cfg(test)]
 mod judging;

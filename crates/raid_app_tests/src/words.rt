@@ -5,7 +5,7 @@ use crate::told::{Way, told};
 use std::test::Fail;
 
 /// Lines of words, each with a space between any two.
-const REFUSED: [&str; 30] = [
+const REFUSED: [&str; 45] = [
     "",
     "--",
     "--help",
@@ -36,6 +36,21 @@ const REFUSED: [&str; 30] = [
     "check --brief",
     "check check",
     "checks",
+    "advise",
+    "advise --last",
+    "advise --last=",
+    "advise --last 0",
+    "advise --last 2001",
+    "advise --last -1",
+    "advise --last x",
+    "advise --last 0000000001",
+    "advise --last 5 --last 5",
+    "advise --last 5 5",
+    "advise --la 5",
+    "advise --count 5",
+    "advise --last 5 --",
+    "advise 5",
+    "advises --last 5",
 ];
 
 #[test]
