@@ -1,5 +1,5 @@
 #!/usr/bin/env python3
-"""Lists what has to be believed: the definitions behind the contract of the program's call `run`, in four tiers, in docs/claim.md.
+"""Lists what has to be believed: the definitions behind the contract of the program's call `run`, in five tiers, in docs/claim.md.
 
     claim.py            compares docs/claim.md with what the definitions are now, and with the most lines that it allows to each tier
     claim.py --write    writes docs/claim.md anew, and leaves the most lines as they are there
@@ -30,6 +30,8 @@ TIERS = (
      "sound, or fails, and how", ["raid_check.specs.Finding.Finds", "raid_report.specs.Beginnings.IsTextOf", "raid_report.specs.Beginnings.IsFirstUnfit",
                                   "raid_app.specs.Input.workload_text", "raid_app.specs.Input.report_text", "raid_app.specs.Lines.unfit_line",
                                   "raid_app.specs.Lines.finding_line"]),
+    ("What is advised", "which switch a sound report speaks for, and how it is printed",
+     ["raid_advise.specs.Advice.advice", "raid_app.specs.Lines.advice_line"]),
     ("Which run it was", "that the report is that of a run of the definitions, by the schedule that the call answers, and how a call ends: its "
      "status, what it read and what it wrote", ["raid_app.specs.Ended.Ends"]),
 )
