@@ -6,6 +6,7 @@ use crate::told::{Outcome, Way, told};
 use raid_base::NoMemory;
 use std::alloc::{AllocError, Global};
 use std::test::Fail;
+use std::thread::Threads;
 
 /// The most bytes that a workload and a report may have together.
 const MOST: usize = 16_777_216;
@@ -70,8 +71,8 @@ fn joined(alloc: Global, first: &str, second: &str) -> Result<String, AllocError
 }
 
 /// Judges what stands in the input.
-fn judged(alloc: Global, input: &[u8]) -> Result<Outcome, NoMemory> {
-    told(alloc, "check", input, Way::Whole, Way::Whole)
+fn judged<R: Threads + Sync>(rt: &R, alloc: Global, input: &[u8]) -> Result<Outcome, NoMemory> {
+    told(rt, alloc, "check", input, Way::Whole, Way::Whole)
 }
 
 #[test]
@@ -79,7 +80,7 @@ fn a_report_that_was_changed_fails_where_it_was(rt: HostRuntime) -> Result<(), F
     for (old, new, status, line) in CHANGED {
         let report = ADDED.replacen(rt.alloc(), old, new, 1)?;
         let input = joined(rt.alloc(), ADDS, report.as_str())?;
-        let told = judged(rt.alloc(), input.as_bytes())?;
+        let told = judged(&rt, rt.alloc(), input.as_bytes())?;
         assert_eq!(rt; told.status, status, "{new}");
         assert_eq!(rt; told.written(), line.as_bytes(), "{new}");
         assert!(rt; told.left().is_empty() && told.picks.is_empty());
@@ -91,7 +92,7 @@ fn a_report_that_was_changed_fails_where_it_was(rt: HostRuntime) -> Result<(), F
 fn a_report_of_another_workload_is_judged(rt: HostRuntime) -> Result<(), Fail> {
     let other = ADDS.replacen(rt.alloc(), "item a 100", "item a 99", 1)?;
     let input = joined(rt.alloc(), other.as_str(), ADDED)?;
-    let told = judged(rt.alloc(), input.as_bytes())?;
+    let told = judged(&rt, rt.alloc(), input.as_bytes())?;
     assert_eq!(rt; told.status, 8);
     assert_eq!(rt; told.written(), b"fails legal at 3\n".as_slice());
     Ok(())
@@ -101,7 +102,7 @@ fn a_report_of_another_workload_is_judged(rt: HostRuntime) -> Result<(), Fail> {
 fn the_first_line_that_does_not_fit_is_named(rt: HostRuntime) -> Result<(), Fail> {
     for (report, line) in UNFIT {
         let input = joined(rt.alloc(), ADDS, report)?;
-        let told = judged(rt.alloc(), input.as_bytes())?;
+        let told = judged(&rt, rt.alloc(), input.as_bytes())?;
         assert_eq!(rt; told.status, 3, "{report}");
         assert_eq!(rt; told.written(), line.as_bytes(), "{report}");
     }
@@ -111,7 +112,7 @@ fn the_first_line_that_does_not_fit_is_named(rt: HostRuntime) -> Result<(), Fail
 #[test]
 fn a_fault_of_the_workload_is_named_first(rt: HostRuntime) -> Result<(), Fail> {
     for (input, line) in FAULTY {
-        let told = judged(rt.alloc(), input.as_bytes())?;
+        let told = judged(&rt, rt.alloc(), input.as_bytes())?;
         assert_eq!(rt; told.status, 3, "{input}");
         assert_eq!(rt; told.written(), line.as_bytes(), "{input}");
     }
@@ -137,6 +138,7 @@ fn without_switch_end(alloc: Global, report: &str) -> Result<(String, u32), Allo
 fn the_end_of_a_switch_is_missed(rt: HostRuntime) -> Result<(), Fail> {
     let workload = moves(rt.alloc())?;
     let ran = told(
+        &rt,
         rt.alloc(),
         "run",
         workload.as_bytes(),
@@ -145,13 +147,13 @@ fn the_end_of_a_switch_is_missed(rt: HostRuntime) -> Result<(), Fail> {
     )?;
     let report = String::from_utf8_lossy(rt.alloc(), ran.written())?;
     let input = joined(rt.alloc(), workload.as_str(), report.as_str())?;
-    let sound = judged(rt.alloc(), input.as_bytes())?;
+    let sound = judged(&rt, rt.alloc(), input.as_bytes())?;
     assert_eq!(rt; sound.status, 0);
     assert_eq!(rt; sound.written(), b"sound\n".as_slice());
 
     let (changed, number) = without_switch_end(rt.alloc(), report.as_str())?;
     let input = joined(rt.alloc(), workload.as_str(), changed.as_str())?;
-    let told = judged(rt.alloc(), input.as_bytes())?;
+    let told = judged(&rt, rt.alloc(), input.as_bytes())?;
     let line = format!(in rt.alloc(); "fails legal at {number}\n")?;
     assert_eq!(rt; told.status, 8);
     assert_eq!(rt; told.written(), line.as_bytes());
@@ -165,7 +167,7 @@ fn no_more_is_read_than_shows_that_an_input_is_too_long(rt: HostRuntime) -> Resu
         let mut bytes = vec![in rt.alloc(); b'#'; length.saturating_sub(texts.len() + 1)]?;
         bytes.push(b'\n')?;
         bytes.extend_from_slice(texts.as_bytes())?;
-        let told = judged(rt.alloc(), bytes.as_slice())?;
+        let told = judged(&rt, rt.alloc(), bytes.as_slice())?;
         assert_eq!(rt; told.status, status, "{length}");
         assert_eq!(rt; told.written(), line.as_bytes(), "{length}");
         assert!(rt; told.left().is_empty());
@@ -177,6 +179,7 @@ fn no_more_is_read_than_shows_that_an_input_is_too_long(rt: HostRuntime) -> Resu
 fn a_failed_read_or_write_judges_nothing(rt: HostRuntime) -> Result<(), Fail> {
     let input = joined(rt.alloc(), ADDS, ADDED)?;
     let unread = told(
+        &rt,
         rt.alloc(),
         "check",
         input.as_bytes(),
@@ -187,6 +190,7 @@ fn a_failed_read_or_write_judges_nothing(rt: HostRuntime) -> Result<(), Fail> {
     assert!(rt; unread.written().is_empty());
     let unsound = input.replacen(rt.alloc(), "=105", "=106", 1)?;
     let unwritten = told(
+        &rt,
         rt.alloc(),
         "check",
         unsound.as_bytes(),
