@@ -149,7 +149,7 @@ def at_limits():
         texts += [head + "open lock native\n" + switches + "done\n", head + "open lock native\n" + events + "done\n"]
     texts += ["", "\n", "#", "workload 1", "workload 01\n", "workload\n", "workload 1 1\n", " workload\t1\r\n", "workload 3\n",
               "workload 2\n", "workload 2\nsites 1 together 1\n", "workload 2\nsites 1 together 1\nrestarts 4\n",
-              "workload 1\nsites 1 together 1\nrestarts 0\n"]
+              "workload 1\nsites 1 together 1\nrestarts 0\n", "workload 1" + " 1" * 1_000_000 + "\n", head + "item a 0 at" + " 1" * 1_000_000 + "\n"]
     return [text.encode() for text in texts]
 
 

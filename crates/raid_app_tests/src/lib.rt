@@ -5,6 +5,8 @@
 #[cfg(test)]
 mod advising;
 #[cfg(test)]
+mod extremes;
+#[cfg(test)]
 mod faults;
 #[cfg(test)]
 mod judging;

@@ -1,9 +1,6 @@
 use crate::gates::Meeting;
-use crate::texts::{ADDS, TWO, workload};
-use raid_base::NoMemory;
-use raid_control::Rack;
+use crate::texts::{TWO, workload};
 use raid_full_rack::{Controllers, full_rack};
-use raid_link::Open;
 use raid_nodes::Nodes;
 use raid_rounds::Rounds;
 use std::test::Fail;

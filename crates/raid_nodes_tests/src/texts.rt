@@ -18,7 +18,3 @@ pub fn workload(alloc: Global, text: &str) -> Result<Workload, NoMemory> {
 /// Two sites, with one program each.
 pub const TWO: &str =
     "workload 1\nsites 2 together 2\nitem x 0 at 1 2\nitem y 0 at 1 2\nopen lock native\nprogram 1\nwrite x 1\nend\nprogram 2\nwrite y 2\nend\ndone\n";
-
-/// One site with one program, which adds 5 to an item.
-pub const ADDS: &str =
-    "workload 1\nsites 1 together 1\nitem a 100 at 1\nopen lock native\nprogram 1\nread a r0\nwrite a r0 + 5\nend\ndone\n";
