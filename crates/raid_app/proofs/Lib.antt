@@ -1,4 +1,4 @@
 pub mod Bound
 pub mod Counts
-pub mod Judging
+pub mod Findings
 pub mod Sayings

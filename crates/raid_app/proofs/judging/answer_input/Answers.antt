@@ -1,4 +1,4 @@
-use Rattle.raid_app.proofs.Judging.{judges_long, judges_short}
+use Rattle.raid_app.proofs.Findings.{judges_long, judges_short}
 use Rattle.raid_app.specs.Wanted.{told_of}
 use Rattle.raid_app.proofs.judging.answer_input.Goals as goal
 

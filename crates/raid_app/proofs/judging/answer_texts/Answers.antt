@@ -1,6 +1,6 @@
 use Rattle.std.proofs.Common.{ap, ◌∙◌, Err}
 use Rattle.raid_app.proofs.Sayings.{first_fault}
-use Rattle.raid_app.proofs.Judging.{judges_faulty, judges_reads}
+use Rattle.raid_app.proofs.Findings.{judges_faulty, judges_reads}
 use Rattle.raid_app.specs.Wanted.{told_of}
 use Rattle.raid_app.proofs.judging.answer_texts.Goals as goal
 
