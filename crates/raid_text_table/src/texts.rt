@@ -111,6 +111,10 @@ pub fn is_made(alloc: Global, words: &str, wanted: &[u8]) -> Result<bool> {
     let Some((seed, programs)) = words.split_once(' ') else {
         bail!("no seed");
     };
-    let workload = make(alloc, seed.parse::<u32>()?, programs.parse::<u32>()?)?;
+    let count = programs.parse::<u32>()?;
+    if count < 1 || count > 2000 {
+        bail!("no such count of programs");
+    }
+    let workload = make(alloc, seed.parse::<u32>()?, count)?;
     Ok(print(alloc, &workload)?.as_slice().ends_with(wanted))
 }
