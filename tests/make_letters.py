@@ -2,7 +2,7 @@
 """Writes random letters to single sites, with what each site sends then and its copies in the end, as the reference
 model has them, for the program raid_site_table.
 
-  make_letters.py [--sequences N] [--seed N] > crates/raid_site_table/stdin
+  (cat worked_site_letters.txt; make_letters.py [--sequences N] [--seed N]) > crates/raid_site_table/stdin
 
 The reference model is read from the folder that RAID_ORACLE names, ../shared/oracle beside the repository by default.
 Most letters are such as the sequencer and other sites may well send at that moment; one in seven is any letter: of a
@@ -12,6 +12,10 @@ wrong sender, to another session, of an unknown transaction, item or site; and s
   site S         begins a sequence of letters to this site, which is up in session 1
   > .., < ..     a letter, and those that the site sends then: see letters.py
   copies C..     ends the sequence: VALUE@VERSION of each copy of the site, by item
+
+The sequences of worked_site_letters.txt, which stand first, were worked by hand, and have comments. Before `copies` they may have
+
+  state up|down SESSION     whether the site is up then, and its session
 """
 from drawing import write_cases
 from letters import Sequences, any_message, some_writes, step_lines, world

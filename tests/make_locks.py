@@ -1,7 +1,7 @@
 #!/usr/bin/env python3
 """Writes random lists of entries, with the answers of the reference model, for the program raid_faillock_table.
 
-  make_locks.py [--lists N] [--seed N] > crates/raid_faillock_table/stdin
+  (cat worked_locks.txt; make_locks.py [--lists N] [--seed N]) > crates/raid_faillock_table/stdin
 
 The reference model is read from the folder that RAID_ORACLE names, ../shared/oracle beside the repository by default. In each list
 transactions commit as they like, sites stop and return, and only some of what is owed is acknowledged.
@@ -18,6 +18,10 @@ A line is a list: words with single spaces. Digits are transactions, sites and s
   o123      the sites that owe the acknowledgement of t1: s2 and s3
   bx23      the sites whose copies of x are locked
   rx12      a transaction of home s1 reads x at s2; 0 for nowhere
+  a1        some copy is locked, or none is: a0
+  s23       the sites that have a locked copy
+
+The lists of worked_locks.txt, which stand first, were worked by hand. A line that begins with `#` is a comment there.
 """
 from drawing import write_cases
 import make_views

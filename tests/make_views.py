@@ -1,7 +1,7 @@
 #!/usr/bin/env python3
 """Writes random views, with questions and the answers of the reference model, for the program raid_rules_table.
 
-  make_views.py [--views N] [--seed N] > crates/raid_rules_table/stdin
+  (cat worked_views.txt; make_views.py [--views N] [--seed N]) > crates/raid_rules_table/stdin
 
 The reference model is read from the folder that RAID_ORACLE names, ../shared/oracle beside the repository by
 default. A third of the views come from legal histories, as whole histories or as what a controller sees after a
@@ -26,6 +26,14 @@ from 1.
   order TXN..                                 the serial order
   cyclic                                      the committed transactions have a cycle
   end                                         ends the view
+
+The views of worked_views.txt, which stand first, were worked by hand. Their verdicts are of one kind alone: its word and the verdict stand
+in place of the four. They have these lines too.
+
+  cyclic TXN..                                the cycle is of these transactions
+  leads TXN TXN yes|no                        whether the conflicts lead from the one to the other
+  noted                                       the numbers and stamps are those of a whole history
+  # WORDS                                     a comment
 """
 import model  # noqa: F401
 from drawing import write_cases

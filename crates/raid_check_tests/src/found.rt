@@ -1,8 +1,11 @@
 //! What is found of reports of two small workloads, by the reference model too.
 
+ghost use Rattle.std.specs.Prelude.{◌≡◌, true, IfOk};
+ghost use Rattle.raid_force.specs.Lasting.{AreClear, are_whole};
+
 use raid_base::{NoMemory, Report};
 use raid_check::{Finding, check, legal};
-use raid_control::Rack;
+use raid_control::{Controller, Rack};
 use raid_full_rack::{Controllers, full_rack};
 use raid_workload::Workload;
 use std::alloc::Global;
@@ -47,7 +50,11 @@ const FOUND: [(&str, &str, Finding); 14] = [
 /// More bytes than a text here has.
 const MOST: usize = 1000;
 
-fn rack(alloc: Global) -> Result<Rack, NoMemory> {
+/// A rack with controllers of every kind.
+fn rack(alloc: Global) -> Result<Rack, NoMemory>
+    ensures whole { IfOk result (λ rack. are_whole ⟦<dyn Controller as Controller>⟧ rack.slots.items ≡ true) }
+    ensures clear { IfOk result (λ rack. AreClear ⟦<dyn Controller as Controller>⟧ rack.slots.items) }
+{
     let made = Controllers::new(alloc)?;
     full_rack(
         alloc,

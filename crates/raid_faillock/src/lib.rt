@@ -7,6 +7,3 @@ pub mod faillocks;
 mod locks;
 
 pub use faillocks::FailLocks;
-
-#[cfg(test)]
-mod tests;

@@ -67,9 +67,10 @@ pub fn noted(alloc: Global, line: &str) -> Result<FailLocks, NoMemory> {
     Ok(locks)
 }
 
-/// Compares the sessions.
+/// Compares the sessions, and how many there are.
 fn sessions(counts: Counts, locks: &FailLocks, word: &[u8]) -> Counts {
-    let mut counts = counts;
+    let sites = usize::from(locks.vector().count);
+    let mut counts = counts.with(sites.saturating_add(1) == word.len());
     for number in 1..9u8 {
         let session = locks.vector().session(Site(number));
         counts = counts.with(session == u32::from(digit(word, usize::from(number))));
@@ -99,6 +100,16 @@ fn locked(counts: Counts, locks: &FailLocks, word: &[u8]) -> Counts {
     counts
 }
 
+/// Compares whether any copy is locked.
+fn any(counts: Counts, locks: &FailLocks, word: &[u8]) -> Counts {
+    counts.with(locks.is_any_locked() == (digit(word, 1) == 1))
+}
+
+/// Compares which sites have a locked copy.
+fn anywhere(counts: Counts, locks: &FailLocks, word: &[u8]) -> Counts {
+    counts.with(locks.locked_sites() == sites_from(word, 1))
+}
+
 /// Compares where an item is read.
 fn source(counts: Counts, locks: &FailLocks, word: &[u8]) -> Counts {
     let number = match locks.source_for(item_at(word, 1), site_at(word, 2)) {
@@ -114,6 +125,8 @@ fn answer(counts: Counts, locks: &FailLocks, word: &[u8]) -> Counts {
         Some(b'v') => sessions(counts, locks, word),
         Some(b'o') => owed(counts, locks, word),
         Some(b'b') => locked(counts, locks, word),
+        Some(b'a') => any(counts, locks, word),
+        Some(b's') => anywhere(counts, locks, word),
         Some(b'r') => source(counts, locks, word),
         _ => counts,
     }

@@ -3,10 +3,12 @@
 ghost use Rattle.std.specs.Prelude.{◌≤◌};
 
 use anyhow::{Result, bail};
-use raid_base::{Ask, Kind, Listed, Noted, Placement, Refusal, Site, Txn, Verdict};
+use raid_base::{
+    Ask, Duplicate, Entry, Kind, Listed, Noted, Placement, Refusal, Site, Txn, Verdict,
+};
 use raid_conflict::Graph;
 use raid_rules::order::{Order, order_of};
-use raid_rules::{judge, sessions};
+use raid_rules::{conflict, judge, note, sessions};
 use raid_view_lines::entries;
 use raid_view_lines::words::{self, Head, Word};
 use std::alloc::Global;
@@ -74,15 +76,26 @@ impl Table {
         }
     }
 
-    /// Compares the verdicts of all kinds on an ask with those that stand from a place of the line on.
+    /// Compares the verdict of a kind on an ask.
+    fn judge(&mut self, alloc: Global, kind: Kind, ask: &Ask, wanted: Verdict) -> Result<()> {
+        let verdict = judge::verdict(alloc, kind, self.entries.as_slice(), ask)?;
+        self.verdicts.push(letter(verdict))?;
+        if verdict != wanted {
+            self.differ = self.differ.saturating_add(1);
+        }
+        Ok(())
+    }
+
+    /// Compares the verdicts on an ask with those that stand from a place of the line on: those of all kinds, or of one that is named.
     fn ask(&mut self, alloc: Global, ask: &Ask, line: &[Word], place: usize) -> Result<()> {
         self.verdicts.push(' ')?;
+        if let Some(kind) = named_kind(line, place) {
+            let wanted = words::verdict(line, place.saturating_add(1))?;
+            return self.judge(alloc, kind, ask, wanted);
+        }
         for (k, kind) in KINDS.iter().enumerate() {
-            let verdict = judge::verdict(alloc, *kind, self.entries.as_slice(), ask)?;
-            self.verdicts.push(letter(verdict))?;
-            if verdict != words::verdict(line, place.saturating_add(k))? {
-                self.differ = self.differ.saturating_add(1);
-            }
+            let wanted = words::verdict(line, place.saturating_add(k))?;
+            self.judge(alloc, *kind, ask, wanted)?;
         }
         Ok(())
     }
@@ -102,7 +115,8 @@ impl Table {
         let txn = words::txn(line, 1)?;
         let stamp = words::number(line, 2)?;
         let reads = Listed::new(alloc);
-        let writes = entries::pairs(alloc, line, 7, line.len())?;
+        let from = if named_kind(line, 3).is_some() { 5 } else { 7 };
+        let writes = entries::pairs(alloc, line, from, line.len())?;
         let ask = Ask::Commit {
             txn,
             stamp,
@@ -185,6 +199,37 @@ impl Table {
         Ok(())
     }
 
+    /// Compares whether the conflicts lead from one transaction to another.
+    fn leads(&mut self, alloc: Global, line: &[Word]) -> Result<()> {
+        let (from, to) = (words::txn(line, 1)?, words::txn(line, 2)?);
+        let edges = conflict::edges(alloc, self.entries.as_slice())?;
+        let leads = conflict::leads(alloc, edges.as_slice(), from, to)?;
+        self.compare(leads == words::answer(line, 3)?);
+        Ok(())
+    }
+
+    /// Compares the numbers and stamps of the entries with those that they have as a whole history.
+    fn noted(&mut self, alloc: Global) -> Result<()> {
+        let view = self.entries.as_slice();
+        let mut entries = Listed::new(alloc);
+        for noted in view {
+            entries.push(noted.entry.copy(alloc)?)?;
+        }
+        if entries.len() > 1_000_000 {
+            bail!("too many entries");
+        }
+        let whole = note::noted(alloc, entries.as_slice())?;
+        let mut same = true;
+        for (noted, again) in view.iter().zip(whole.as_slice()) {
+            same = same && noted.at == again.at && noted.stamp == again.stamp;
+            if let Entry::Begin { txn, .. } = &noted.entry {
+                same = same && note::stamp(view, *txn) == noted.at;
+            }
+        }
+        self.compare(same);
+        Ok(())
+    }
+
     /// Takes a line, and answers what it says.
     pub fn hear(&mut self, alloc: Global, line: &[Word]) -> Result<Head> {
         let head = words::line_head(line)?;
@@ -202,6 +247,8 @@ impl Table {
             Head::Source => self.source(line)?,
             Head::Order => self.order(alloc, line, false)?,
             Head::Cyclic => self.order(alloc, line, true)?,
+            Head::Leads => self.leads(alloc, line)?,
+            Head::Noted => self.noted(alloc)?,
             Head::Carried | Head::Suffix | Head::Due => bail!("no line of such a view"),
             Head::End => {}
         }
@@ -218,12 +265,32 @@ fn graph_order(alloc: Global, entries: &[Noted]) -> Result<Order> {
     Ok(graph.order(alloc)?)
 }
 
+/// The kind that stands at a place, if one does.
+fn named_kind(line: &[Word], place: usize) -> Option<Kind> {
+    match line.get(place) {
+        Some(Word::Kind(kind)) => Some(*kind),
+        _ => None,
+    }
+}
+
 /// Whether the order is what the line says.
 fn is_so(order: &Order, line: &[Word], cyclic: bool) -> Result<bool> {
     match order {
         Order::Whole(order) => Ok(!cyclic && is_listed_so(order.as_slice(), line)?),
-        Order::Cyclic(_) => Ok(cyclic),
+        Order::Cyclic(cycle) => Ok(cyclic && is_cycle_so(cycle.as_slice(), line)?),
     }
+}
+
+/// Whether the line names no transaction of the cycle, or all of them.
+fn is_cycle_so(cycle: &[Txn], line: &[Word]) -> Result<bool> {
+    if line.len() == 1 {
+        return Ok(true);
+    }
+    let mut same = cycle.len().saturating_add(1) == line.len();
+    for place in 1..line.len() {
+        same = same && conflict::is_listed(cycle, words::txn(line, place)?);
+    }
+    Ok(same)
 }
 
 /// Whether the line lists these transactions, in this order.

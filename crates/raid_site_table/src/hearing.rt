@@ -23,6 +23,19 @@ fn has_copies(rt: &HostRuntime, server: &SiteServer, words: &mut Words) -> Resul
     Ok(words.is_empty())
 }
 
+/// Whether a site is up, and its session.
+pub type State = (bool, u32);
+
+/// Whether the site is as it is wanted to be, if that is said.
+fn is_in(rt: &HostRuntime, server: &SiteServer, wanted: Option<State>) -> Result<bool> {
+    let state = (server.is_up(), server.session());
+    let alike = wanted.is_none() || wanted == Some(state);
+    if !alike {
+        println!(rt; "it is up: {}, in session {}", state.0, state.1)?;
+    }
+    Ok(alike)
+}
+
 /// Whether the site sends what is wanted at a letter.
 fn sends_alike(
     rt: &HostRuntime,
@@ -45,12 +58,13 @@ fn sends_alike(
     Ok(alike)
 }
 
-/// Whether the site sends what is wanted at each letter, and has these copies in the end.
+/// Whether the site sends what is wanted at each letter, and is in this state and has these copies in the end.
 pub fn hears_alike(
     rt: &HostRuntime,
     workload: &Workload,
     site: Site,
     steps: &[Step],
+    state: Option<State>,
     copies: &mut Words,
 ) -> Result<bool> {
     if site.0 < 1 || site.0 > workload.sites {
@@ -62,5 +76,5 @@ pub fn hears_alike(
             return Ok(false);
         }
     }
-    has_copies(rt, &server, copies)
+    Ok(is_in(rt, &server, state)? && has_copies(rt, &server, copies)?)
 }

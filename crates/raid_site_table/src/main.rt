@@ -1,5 +1,6 @@
-//! Lets sites hear random letters, and compares what they send, and their copies in the end, with what stands beside the
-//! letters: what a reference model has (tests/make_letters.py has the form of the lines).
+//! Lets sites hear letters, and compares what they send, and their state and copies in the end, with what stands beside the letters. The
+//! first sequences are worked by hand; the others are random, and what is wanted is what a reference model has (tests/make_letters.py has
+//! the form of the lines).
 //!
 //! The first letter of a sequence that a site answers otherwise is printed, and what it sends then.
 #![tactic(auto)]
@@ -7,7 +8,7 @@
 mod hearing;
 
 use anyhow::{Result, bail};
-use hearing::hears_alike;
+use hearing::{State, hears_alike};
 use raid_base::Site;
 use raid_letter_lines::{Step, Text, Words, add_line};
 use raid_workload::Workload;
@@ -19,6 +20,7 @@ struct Table {
     workload: Option<Workload>,
     site: Site,
     steps: Vec<Step>,
+    state: Option<State>,
     sequences: u32,
     letters: usize,
     differ: u32,
@@ -32,7 +34,14 @@ impl Table {
         };
         self.sequences = self.sequences.saturating_add(1);
         self.letters = self.letters.saturating_add(self.steps.len());
-        if !hears_alike(rt, workload, self.site, self.steps.as_slice(), copies)? {
+        if !hears_alike(
+            rt,
+            workload,
+            self.site,
+            self.steps.as_slice(),
+            self.state,
+            copies,
+        )? {
             self.differ = self.differ.saturating_add(1);
             println!(rt; "so in sequence {}", self.sequences)?;
         }
@@ -60,6 +69,11 @@ impl Table {
             "site" => {
                 self.site = words.site()?;
                 self.steps.clear();
+                self.state = None;
+                Ok(())
+            }
+            "state" => {
+                self.state = Some((words.word() == "up", words.number()?));
                 Ok(())
             }
             "copies" => self.hear(rt, &mut words),
@@ -74,6 +88,7 @@ fn main(rt: HostRuntime) -> Result<()> {
         workload: None,
         site: Site(1),
         steps: Vec::new(rt.alloc()),
+        state: None,
         sequences: 0,
         letters: 0,
         differ: 0,

@@ -10,8 +10,6 @@ mod names;
 mod reading;
 mod state;
 mod statements;
-#[cfg(test)]
-mod tests;
 mod writing;
 
 pub use error::Refused;
