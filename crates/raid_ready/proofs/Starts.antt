@@ -52,11 +52,12 @@ module _ (w : Workload) (k : ℕ) (p : List Noted) where
       go false runs = refl
 
   may_take : (bs : List Txn) (t : Txn) (state : SiteState) → state.site ≡ here → AllByRecursion (λ (r : Running). FineAt w here p bs r.txn) state.running → Ours w here t → has_begun p t ≡ false → has_txn bs t ≡ false → MayTakeUp w p state t
-  may_take bs t state place fine ours fresh free =
-      (ours.known,
-      and_from (is_site state.site (home w t) && not (has_begun p t)) (not (runs_here state t))
-      (and_from (is_site state.site (home w t)) (not (has_begun p t)) (ap (λ s. is_site s (home w t)) place ∙ ours.at) (ap not fresh))
-      (ap not (not_running bs t state.running fine fresh free)))
+  may_take bs t state place fine ours fresh free = (
+    ours.known,
+    and_from (is_site state.site (home w t) && not (has_begun p t)) (not (runs_here state t))
+        (and_from (is_site state.site (home w t)) (not (has_begun p t)) (ap (λ s. is_site s (home w t)) place ∙ ours.at) (ap not fresh))
+        (ap not (not_running bs t state.running fine fresh free)),
+  )
 
   -- an attempt that was promised
   pub promised_may : (bs : List Txn) (t : Txn) (state : SiteState) → state.site ≡ here → AllByRecursion (λ (r : Running). FineAt w here p bs r.txn) state.running → runs_here state t ≡ true → (is_site here (home w t) ≡ true → Promise w here p bs t) → MayTakeUp w p (drops state t).state (next_attempt w t)
