@@ -90,35 +90,35 @@ module _ (w : Workload) (schedule : List Pick) (k : ℕ) (s : SiteState) (at : s
   retries t tells runs = go (stage tells.by)
     where
       go : Now (letter ∷ rest) → MayTakeUp w p (drops s t).state (next_attempt w t)
-      go (stopped down none zero) = absurd (none_run t none runs)
-      go (asleep up less none zero b) = absurd (none_run t none runs)
-      go (fresh up last none zero b welcome) = absurd (none_run t none runs)
+      go (stopped down none unset) = absurd (none_run t none runs)
+      go (asleep up less none unset b) = absurd (none_run t none runs)
+      go (fresh up last none unset b welcome) = absurd (none_run t none runs)
       go (awake up last fine counts) = promised_may w k p bs t s place fine runs (λ own. (subst (λ m. NoteOk w here p s.session bs m rest) tells.is (counts.notes.0 tells.heard.meant) own).0)
 
   -- the next one begins
   starts : Starts w s from letter → (turn : Turn SiteState) → Reached w s from letter turn → (turn.state.next == 0) ≡ false → MayTakeUp w p turn.state (next_of turn)
-  starts begins turn reached some = go (stage of)
+  starts lets turn reached some = go (stage of)
     where
       heard : Hears s letter
-      heard = (hears_it w s from letter begins).0
+      heard = (hears_it w s from letter lets).0
 
       of : from ≡ 1
-      of = (hears_it w s from letter begins).1
+      of = (hears_it w s from letter lets).1
 
       welcomed : s.running ≡ [] → s.next ≡ 0 → Welcoming w here s.session p (letter ∷ rest) → MayTakeUp w p turn.state (next_of turn)
-      welcomed none zero (inl (to, welcome)) =
-          first_may w k p s.session rest [] s place housed.ascend from letter of turn reached some none zero
+      welcomed none unset (inl (to, welcome)) =
+          first_may w k p s.session rest [] s place housed.ascend from letter of turn reached some none unset
           (λ v n tells. (let ok = subst (λ m. WelcomeOk w here s.session p m rest) tells.is welcome in record { line = tt; counts = ok.1.0; notes = ok.1.1 }))
           (λ t tells. subst (λ m. WelcomeOk w here s.session p m rest) tells.is welcome)
-      welcomed none zero (inr (plain, later)) =
-          first_may w k p s.session rest [] s place housed.ascend from letter of turn reached some none zero
+      welcomed none unset (inr (plain, later)) =
+          first_may w k p s.session rest [] s place housed.ascend from letter of turn reached some none unset
           (λ v n tells. absurd (subst IsPlain tells.is (plain tells.heard.meant)))
           (λ t tells. subst IsPlain tells.is (plain tells.heard.meant))
 
       go : Now (letter ∷ rest) → MayTakeUp w p turn.state (next_of turn)
-      go (stopped down none zero) = absurd (true≢false (sym heard.up ∙ down))
-      go (asleep up less none zero b) = absurd (early of heard.meant less)
-      go (fresh up last none zero b welcome) = welcomed none zero welcome
+      go (stopped down none unset) = absurd (true≢false (sym heard.up ∙ down))
+      go (asleep up less none unset b) = absurd (early of heard.meant less)
+      go (fresh up last none unset b welcome) = welcomed none unset welcome
       go (awake up last fine counts) =
           later_may w k p s.session rest bs s place housed.ascend from letter of turn reached some fine (record { line = counts.line; counts = counts.counts; notes = counts.notes.1 })
           (λ v n tells. subst (λ m. NoteOk w here p s.session bs m rest) tells.is (counts.notes.0 tells.heard.meant))
@@ -133,7 +133,7 @@ module _ (w : Workload) (schedule : List Pick) (k : ℕ) (s : SiteState) (at : s
     own = subst (λ x. AllByRecursion (λ (r : Running). (has_txn (txns w) r.txn ≡ true) × (is_site x (home w r.txn) ≡ true)) s.running) (sym place) (run_home w schedule k s at).own;
     once = (run_home w schedule k s at).once;
     together = run_few w schedule k s at;
-    gives = λ r i x q v found phase. run_gives w schedule k s at r i x q v found phase;
+    gives = run_gives w schedule k s at;
     done = λ t tells. over t (letters.Done t) tells (self t.0);
     dropped = λ t again tells. over t (letters.Drop t again) tells (self t.0);
     retries = retries;

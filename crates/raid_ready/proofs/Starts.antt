@@ -14,7 +14,7 @@ use Rattle.raid_message.specs.declared.letter.Message.{Message}
 use Rattle.raid_message.specs.declared.letter.Message.TheVariants as letters
 use Rattle.raid_message.specs.declared.letter.Letter.{Letter}
 use Rattle.raid_steps.specs.State.{Turn, Running, SiteState}
-use Rattle.raid_steps.specs.Programs.{runs_here, next_attempt}
+use Rattle.raid_steps.specs.Programs.{runs_here, following, next_attempt}
 use Rattle.raid_moves.specs.Moves.{Ascend, Tells, drops, Row, next_of, Reached}
 use Rattle.raid_moves.proofs.Places.{all_found, all_kept, one_found, program_of, found_txn}
 use Rattle.raid_moves.proofs.Steps.{ascend_row}
@@ -81,7 +81,7 @@ module _ (w : Workload) (k : ℕ) (p : List Noted) where
     begins_on : BeginsNext w here Fine MayBegin
     begins_on ts s rs n keeps some = go keeps.counts
       where
-        go : MayBegin ts n → Keeps w here Fine MayBegin (ts ++ (record { 0 = n }) ∷ []) s rs _ × Fine (ts ++ (record { 0 = n }) ∷ []) (record { 0 = n })
+        go : MayBegin ts n → Keeps w here Fine MayBegin (ts ++ (record { 0 = n }) ∷ []) s rs (following w here n) × Fine (ts ++ (record { 0 = n }) ∷ []) (record { 0 = n })
         go (inl none) = absurd (true≢false (sym (ap (λ n. n == 0) none) ∙ some))
         go (inr counts) =
             let after = next_begins w here p m rest bs ts s rs n (record { site = keeps.site; fine = keeps.fine; counts = counts; ascend = keeps.ascend }) some in
@@ -98,9 +98,9 @@ module _ (w : Workload) (k : ℕ) (p : List Noted) where
     module _ (state : SiteState) (place : state.site ≡ here) (ascend : Ascend state.running) (from : ℕ) (letter : Letter) (of : from ≡ 1) (turn : Turn SiteState) (reached : Reached w state from letter turn) (some : (turn.state.next == 0) ≡ false) where
       -- before it was welcomed
       pub first_may : state.running ≡ [] → state.next ≡ 0 → ((v : List ℕ) (n : ℕ) → Tells w state from letter (letters.Welcome v n) → CountsAt w here p m rest (bs ++ []) n) → ((t : Txn) → Tells w state from letter (letters.Drop t true) → ⊥) → MayTakeUp w p turn.state (next_of turn)
-      first_may none zero welcome undropped =
+      first_may none unset welcome undropped =
           next_may turn
-          (reaches w here Fine MayBegin state (record { site = place; fine = subst (λ rs. AllByRecursion (λ (r : Running). Fine [] r.txn) rs) (sym none) tt; counts = inl zero; ascend = ascend }) from letter begins_on of (λ v n tells. inr (welcome v n tells)) (λ t tells. absurd (undropped t tells)) turn reached)
+          (reaches w here Fine MayBegin state (record { site = place; fine = subst (λ rs. AllByRecursion (λ (r : Running). Fine [] r.txn) rs) (sym none) tt; counts = inl unset; ascend = ascend }) from letter begins_on of (λ v n tells. inr (welcome v n tells)) (λ t tells. absurd (undropped t tells)) turn reached)
           some
 
       -- and after that
