@@ -35,8 +35,8 @@ of_running P t rs a runs = go (program_of t rs) refl
 -- what holds of a site's programs, in each turn that a letter of the sequencer leads to
 reaches : (w : Workload) (h : Site) (Fine : List Txn → Txn → Type 0) (Counts : List Txn → ℕ → Type 0) (state : SiteState) → Keeps w h Fine Counts [] state.site state.running state.next → (from : ℕ) (letter : Letter) → BeginsNext w h Fine Counts → from ≡ 1 →
     ((v : List ℕ) (n : ℕ) → Tells w state from letter (letters.Welcome v n) → Counts [] n) → ((t : Txn) → Tells w state from letter (letters.Drop t true) → BeginsAgain w h Fine Counts t) → (turn : Turn SiteState) → Reached w state from letter turn → Kept w h Fine Counts turn
-reaches w h Fine Counts state k from letter next of welcome retry turn (after, (row, moves)) =
-    moves_keep w h Fine Counts state from letter next moves (ascend_row w state from letter k.ascend row)
+reaches w h Fine Counts state k from letter next of welcome retry turn (after, (row, chain)) =
+    moves_keep w h Fine Counts state from letter next chain (ascend_row w state from letter k.ascend row)
     (rowed w h Fine Counts state k from letter next (λ monitor stop. omega (arith, of, monitor)) welcome retry row)
 
 module _ (w : Workload) (k : ℕ) (p : List Noted) where
