@@ -48,7 +48,7 @@ none_later m (l ∷ ls) a = ap (λ b. if b then begun_by l.message ++ begins (m 
     other : (a m : ℕ) → a ≤ m → (a == m + 1) ≡ false
     other a m q = grind (arith, q)
 
-nothing_runs : (rs : List Running) → AllByRecursion (λ (r : Running). ⊥) rs → rs ≡ []
+pub nothing_runs : (rs : List Running) → AllByRecursion (λ (r : Running). ⊥) rs → rs ≡ []
 nothing_runs [] a = refl
 nothing_runs (r ∷ rs) a = absurd a.0
 
@@ -80,16 +80,16 @@ module _ (w : Workload) (k : ℕ) where
     -- the steps of a site that is up
     module _ (state : SiteState) (place : state.site ≡ here) (ascend : Ascend state.running) where
       -- one at which nothing runs, and that isn't welcomed
-      Idle : List Txn → Txn → Type 0
+      pub Idle : List Txn → Txn → Type 0
       Idle ts t = ⊥
 
-      None : List Txn → ℕ → Type 0
+      pub None : List Txn → ℕ → Type 0
       None ts n = (n ≡ 0) × (ts ≡ [])
 
       abbrev pub Still : Turn SiteState → Type 0
       Still turn = (turn.state.running ≡ []) × ((turn.state.next ≡ 0) × (told turn.outs ≡ []))
 
-      still_next : BeginsNext w here Idle None
+      pub still_next : BeginsNext w here Idle None
       unfolding Idle None
       still_next ts s rs n q some = absurd (true≢false (sym (ap (λ k. k == 0) q.counts.0) ∙ some))
 
@@ -97,7 +97,7 @@ module _ (w : Workload) (k : ℕ) where
       unfolding Idle None
       still_turn turn q = (nothing_runs turn.state.running q.1.1.fine, (q.1.1.counts.0, q.1.0 ∙ q.1.1.counts.1))
 
-      still_keeps : state.running ≡ [] → state.next ≡ 0 → Keeps w here Idle None [] state.site state.running state.next
+      pub still_keeps : state.running ≡ [] → state.next ≡ 0 → Keeps w here Idle None [] state.site state.running state.next
       unfolding Idle None
       still_keeps r n = record { site = place; fine = subst (λ rs. AllByRecursion (λ (r : Running). Idle [] r.txn) rs) (sym r) tt; counts = (n, refl); ascend = ascend }
 
@@ -120,10 +120,10 @@ module _ (w : Workload) (k : ℕ) where
         pub runs_turn : (turn : Turn SiteState) → Kept w here (FineNow w here p m rest bs) (CountsNow w here p m rest bs) turn → Runs turn
         runs_turn turn q = subst (λ ts. AllByRecursion (λ (r : Running). FineAt w here p (bs ++ ts) r.txn) turn.state.running × CountsAt w here p m rest (bs ++ ts) turn.state.next) (sym q.1.0) (q.1.1.fine, q.1.1.counts)
 
-        runs_keeps : AllByRecursion (λ (r : Running). FineAt w here p bs r.txn) state.running → CountsAt w here p m rest bs state.next → Keeps w here (FineNow w here p m rest bs) (CountsNow w here p m rest bs) [] state.site state.running state.next
+        pub runs_keeps : AllByRecursion (λ (r : Running). FineAt w here p bs r.txn) state.running → CountsAt w here p m rest bs state.next → Keeps w here (FineNow w here p m rest bs) (CountsNow w here p m rest bs) [] state.site state.running state.next
         runs_keeps f c = record { site = place; fine = subst (λ bs. AllByRecursion (λ (r : Running). FineAt w here p bs r.txn) state.running) (sym (append-nil bs)) f; counts = subst (λ bs. CountsAt w here p m rest bs state.next) (sym (append-nil bs)) c; ascend = ascend }
 
-        no_welcome : (message : Message) (ls : List Letter) (v : List ℕ) (n : ℕ) → message ≡ letters.Welcome v n → NoteOk w here p m bs message ls → ⊥
+        pub no_welcome : (message : Message) (ls : List Letter) (v : List ℕ) (n : ℕ) → message ≡ letters.Welcome v n → NoteOk w here p m bs message ls → ⊥
         no_welcome message ls v n e ok = subst (λ x. NoteOk w here p m bs x ls) e ok
 
         pub runs_heard : state.up ≡ true → AllByRecursion (λ (r : Running). FineAt w here p bs r.txn) state.running → CountsAt w here p m rest bs state.next → (letter : Letter) → ((letter.to == m) ≡ true → NoteOk w here p m bs letter.message rest) → Runs (rows.hear_up w state 1 letter)

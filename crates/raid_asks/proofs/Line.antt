@@ -275,7 +275,7 @@ module _ (w : Workload) (s : Site) (p : List Noted) where
               subst (λ bs. FineAt bs (txn n)) place (fine_new (before ++ ts) (txn n) c.1.1.1 c.1.0),
             )
 
-        runs_fine : (bs : List Txn) (t : Txn) (rs : List Running) → AllByRecursion (λ (r : Running). FineAt bs r.txn) rs → list_any (λ (r : Running). is_txn t r.txn) rs ≡ true → Ours w s t
+        pub runs_fine : (bs : List Txn) (t : Txn) (rs : List Running) → AllByRecursion (λ (r : Running). FineAt bs r.txn) rs → list_any (λ (r : Running). is_txn t r.txn) rs ≡ true → Ours w s t
         runs_fine bs t [] a q = absurd (true≢false (sym q))
         runs_fine bs t (r ∷ rs) a q = go (r.txn.0 == t.0) refl q (λ q. runs_fine bs t rs a.1 q)
           where

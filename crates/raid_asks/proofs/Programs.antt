@@ -132,7 +132,7 @@ module _ (w : Workload) (h : Site) (Fine : List Txn → Txn → Type 0) (Counts 
 
   -- the step, where no Stop is heard, and a Welcome and a Drop say what may begin
   module _ (state : SiteState) (k : Keeps [] state.site state.running state.next) (from : ℕ) (letter : Letter) (next : BeginsNext) where
-    rowed : (from ≡ 0 → letter.message ≡ letters.Stop → ⊥) → ((v : List ℕ) (n : ℕ) → Tells w state from letter (letters.Welcome v n) → Counts [] n) → ((t : Txn) → Tells w state from letter (letters.Drop t true) → BeginsAgain t) → {after : Turn SiteState} → Row w state from letter after → Kept after
+    pub rowed : (from ≡ 0 → letter.message ≡ letters.Stop → ⊥) → ((v : List ℕ) (n : ℕ) → Tells w state from letter (letters.Welcome v n) → Counts [] n) → ((t : Txn) → Tells w state from letter (letters.Drop t true) → BeginsAgain t) → {after : Turn SiteState} → Row w state from letter after → Kept after
     rowed stop welcome retry (parts.halts u f m) = absurd (stop f m)
     rowed stop welcome retry (parts.returns u f m) = ([], (refl, k))
     rowed stop welcome retry (parts.refuses i t writes u f l m) = ([], (unheard (i + 2) letter.from (letters.Vote t (No letter.to state.session)) refl, k))
