@@ -91,7 +91,7 @@ module _ (w : Workload) (from : ℕ) (letter : Letter) (first p : List Noted) (e
           at_least a b is = grind (arith, is)
 
       listed : has_site (sites w) s ≡ true
-      listed = (let n = numbered in counted 1 w.sites s.0 n.0 (omega (arith, n)))
+      listed = (let low = numbered.0 in let high = numbered.1 in counted 1 w.sites s.0 low (omega (arith, high)))
 
       committing : (t : Txn) (r : Request) (applied : List Site) → e ≡ Commit t r applied → (b : Bool) → holds x r.writes ≡ b → Locks s x
       committing t r applied is true wrote =
@@ -184,16 +184,16 @@ module _ (w : Workload) (from : ℕ) (letter : Letter) (first p : List Noted) (e
       go (letters.Apply t number) off = either number off (was_written q x number) refl
       go other off = tt
 
-  asks_on : (here : Site) (to : ℕ) (m : Message) (behind : List Letter) → Asks w p here to m behind → Asks w q here to m behind
-  asks_on here to (letters.CopyDo x target n) behind h known wanted = record {
+  copies_on : (here : Site) (to : ℕ) (x : Item) (target : Site) (n : ℕ) (behind : List Letter) → knows_site w here ≡ true → knows_site w target ≡ true → Copies w p here to x target n behind → Copies w q here to x target n behind
+  copies_on here to x target n behind known wanted old = record {
     past = (let a = old.past in let b = last_on here in omega (arith, a, b));
     target_past = (let a = old.target_past in let b = last_on target in omega (arith, a, b));
     unlocked = λ held some up waits. still_unlocked here to x known held old.past some up (λ was. old.unlocked held some was (waited target n x wanted old.target_past waits).0);
     off = λ waits. (let both = waited target n x wanted old.target_past waits in off_on x both.1 behind (old.off both.0));
   }
-    where
-      old : Copies w p here to x target n behind
-      old = h known wanted
+
+  asks_on : (here : Site) (to : ℕ) (m : Message) (behind : List Letter) → Asks w p here to m behind → Asks w q here to m behind
+  asks_on here to (letters.CopyDo x target n) behind h = λ known wanted. copies_on here to x target n behind known wanted (h known wanted)
   asks_on here to other behind h = tt
 
   pub along_on : (here : Site) (ls : List Letter) → AskAlong w p here ls → AskAlong w q here ls

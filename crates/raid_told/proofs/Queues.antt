@@ -32,16 +32,16 @@ module _ (w : Workload) (p : List Noted) where
       go false wrote = refl
   off_joins other joins x s n known waits = tt
 
-  asks_push : (here : Site) (to : ℕ) (m : Message) (behind : List Letter) (l : Letter) → Joins l.message → Asks w p here to m behind → Asks w p here to m (behind ++ l ∷ [])
-  asks_push here to (letters.CopyDo x target n) behind l joins h known wanted = record {
+  copies_push : (here : Site) (to : ℕ) (x : Item) (target : Site) (n : ℕ) (behind : List Letter) (l : Letter) → Joins l.message → knows_site w target ≡ true → Copies w p here to x target n behind → Copies w p here to x target n (behind ++ l ∷ [])
+  copies_push here to x target n behind l joins wanted old = record {
     past = old.past;
     target_past = old.target_past;
     unlocked = old.unlocked;
     off = λ waits. all_append (λ (l : Letter). IsOff p x l.message) behind (l ∷ []) (old.off waits) (off_joins l.message joins x target n wanted waits, tt);
   }
-    where
-      old : Copies w p here to x target n behind
-      old = h known wanted
+
+  asks_push : (here : Site) (to : ℕ) (m : Message) (behind : List Letter) (l : Letter) → Joins l.message → Asks w p here to m behind → Asks w p here to m (behind ++ l ∷ [])
+  asks_push here to (letters.CopyDo x target n) behind l joins h = λ known wanted. copies_push here to x target n behind l joins wanted (h known wanted)
   asks_push here to other behind l joins h = tt
 
   along_push : (here : Site) (ls : List Letter) (l : Letter) → Joins l.message → Asks w p here l.to l.message [] → AskAlong w p here ls → AskAlong w p here (ls ++ l ∷ [])
