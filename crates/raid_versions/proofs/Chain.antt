@@ -246,7 +246,7 @@ module _ (w : Workload) where
     told : IsTold w state.servers.sites from letter p
     told k s of at = (subst (AllByRecursion (λ (l : Letter). Told p s l.message)) (ap (link state.links 1) (sym of) ∙ front) (last.told k s at)).0
 
-    opens : IsOpening w from letter p
+    pub opens : IsOpening w from letter p
     opens k of hello =
         let l = knows.says.reached.long in
         let low = low_from in
@@ -254,7 +254,7 @@ module _ (w : Workload) where
         let asked = front_asked w state knows.says.reached k own.0 own.1 letter rest (ap (link state.links 1) (sym of) ∙ front) ∙ ap (λ b. if b then last_session p (site (k + 1)) + 1 else last_session p (site (k + 1))) (ap is_hello hello) in
         omega (arith, asked)
 
-    known : IsKnown w from letter p
+    pub known : IsKnown w from letter p
     known k of = number_known w k (let low = low_from in omega (arith, low, of))
 
     abbrev turn : Turn Sequencer

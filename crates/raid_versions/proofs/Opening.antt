@@ -42,18 +42,18 @@ latest_first x m v (l ∷ ls) = latest_first x m (after_letter [] x m v l) ls �
 
 module _ (w : Workload) where
   -- each letter at the start is a Welcome
-  abbrev IsWelcome : Message → Type 0
+  abbrev pub IsWelcome : Message → Type 0
   IsWelcome (letters.Welcome v next) = ⊤
   IsWelcome other = ⊥
 
-  abbrev AreWelcomes : List Letter → Type 0
+  abbrev pub AreWelcomes : List Letter → Type 0
   AreWelcomes ls = AllByRecursion (λ (l : Letter). IsWelcome l.message) ls
 
   rows_open : (ss : List Site) → AllByRecursion (AllByRecursion AreWelcomes) (map (first_links w) ss)
   rows_open [] = tt
   rows_open (s ∷ ss) = ((tt, ((tt, tt), all_empty AreWelcomes w.sites [] tt)), rows_open ss)
 
-  welcomes : (server from : ℕ) → AreWelcomes (link (open_world w).links server from)
+  pub welcomes : (server from : ℕ) → AreWelcomes (link (open_world w).links server from)
   welcomes server from =
       all_at AreWelcomes (slice_index_or (open_world w).links server []) from []
       (all_at (AllByRecursion AreWelcomes) (open_world w).links server [] (all_empty AreWelcomes (w.sites + 2) [] tt, (all_empty AreWelcomes (w.sites + 2) [] tt, rows_open (sites w))) tt) tt

@@ -33,9 +33,9 @@ module _ (w : Workload) where
   known schedule = record { says = reaches w schedule; cares = (reached_all w schedule).1.1; staged = runs_stage w schedule; agree = runs_agree w schedule; held = runs_hold w schedule }
 
   -- and who owes an Ack is up
-  record Last (state : World) : Type 0 where
-    versions : HaveLastVersions state
-    owers : OwersAreUp w (noted state.servers.sequencer.history)
+  pub record Last (state : World) : Type 0 where
+    pub versions : HaveLastVersions state
+    pub owers : OwersAreUp w (noted state.servers.sequencer.history)
 
   module _ (state : World) (knows : Known w state) (all : Last state) (from clock : ℕ) (l : Letter) (rest : List Letter) where
     abbrev InWorld : List Entry → List SiteState → List (List (List Letter)) → Type 0
@@ -73,7 +73,7 @@ module _ (w : Workload) where
       let s = run w schedule in
       subst Last (sym (fold-append (pick w) (open_world w) schedule (p ∷ []))) (front_last s p.server p.from (link s.links p.server p.from) refl (known schedule) all)
 
-  steps : (before more : List Pick) → Last (run w before) → Last (run w (before ++ more))
+  pub steps : (before more : List Pick) → Last (run w before) → Last (run w (before ++ more))
   steps before [] all = subst (λ z. Last (run w z)) (sym (append-nil before)) all
   steps before (p ∷ more) all = subst (λ z. Last (run w z)) (append_assoc before (p ∷ []) more) (steps (before ++ p ∷ []) more (step before p all))
 

@@ -92,7 +92,7 @@ module _ (w : Workload) (state : World) (known : Known w state) (last : HaveLast
   other_is k z differ there = sym (get_other sites j k turn.state differ) ∙ there
 
   -- the sequencer's links to sites: only what is heard is taken
-  front_of : (d : ℕ) → from ≡ d → link state.links (j + 2) d ≡ letter ∷ rest
+  pub front_of : (d : ℕ) → from ≡ d → link state.links (j + 2) d ≡ letter ∷ rest
   front_of d q = ap (λ c. link state.links c d) (sym place) ∙ ap (link state.links (suc (suc j))) (sym q) ∙ front
 
   note_taken : from ≡ 1 → link after (j + 2) 1 ≡ rest
@@ -144,7 +144,7 @@ module _ (w : Workload) (state : World) (known : Known w state) (last : HaveLast
       go (steps.hears was some up session) = still up session
 
   -- a site that hears another server is live
-  hears_live : Hears own letter → (from ≡ 0 → ⊥) → IsLive p sites j own
+  pub hears_live : Hears own letter → (from ≡ 0 → ⊥) → IsLive p sites j own
   hears_live hears some = record { at = at; up = hears.up; last = (let most = told_follows w state known.says.reached j own at in let least = heard from refl in let same = eqb-true letter.to own.session hears.meant in omega (arith, most, least, same)) }
     where
       heard : (f : ℕ) → from ≡ f → letter.to ≤ last_session p (site (j + 1))
