@@ -33,7 +33,7 @@ use Rattle.raid_letters.specs.Says.{is_held}
 use Rattle.raid_versions.proofs.Chain.{OwersAreUp, opens, known}
 use Rattle.raid_versions.proofs.Opening.{IsWelcome, AreWelcomes, welcomes, open_versions}
 use Rattle.raid_versions.proofs.Owed.{Known}
-use Rattle.raid_versions.proofs.Runs as versions
+use Rattle.raid_versions.proofs.Runs as below
 use Rattle.raid_versions.proofs.Steps.{hear_steps}
 use Rattle.raid_told.specs.Copiers.{IsCurrent, Asks, Speaks, AskAlong, QueueTells, LinksTell, CopiersTell}
 use Rattle.raid_told.proofs.Queues.{monitor_posts, front_taken}
@@ -60,7 +60,7 @@ module _ (w : Workload) where
       go (suc (suc j)) [] a = tt
       go (suc (suc j)) (l ∷ ls) a = (speaks (site (server - 1)) (site (j + 1)) l.to l.from l.message a.0, go (suc (suc j)) ls a.1)
 
-  module _ (state : World) (knows : Known w state) (last : versions.Last w state) (all : CopiersTell w state) (from clock : ℕ) (l : Letter) (rest : List Letter) where
+  module _ (state : World) (knows : Known w state) (last : below.Last w state) (all : CopiersTell w state) (from clock : ℕ) (l : Letter) (rest : List Letter) where
     -- the world after the letter was heard, by its servers and links
     abbrev Heard : ℕ → Type 0
     Heard server = LinksTell w (noted (hear w state.servers server from l).0.sequencer.history) (moved state.links server from (session_of (hear w state.servers server from l).0 server) clock rest (hear w state.servers server from l).1)
@@ -88,7 +88,7 @@ module _ (w : Workload) where
     heard (suc zero) front = at_sequencer front
     heard (suc (suc k)) front = at_site k front (slice_get state.servers.sites k) refl
 
-  front_tells : (state : World) (server from : ℕ) (queue : List Letter) → link state.links server from ≡ queue → Known w state → versions.Last w state → CopiersTell w state → CopiersTell w (take_front w state server from queue)
+  front_tells : (state : World) (server from : ℕ) (queue : List Letter) → link state.links server from ≡ queue → Known w state → below.Last w state → CopiersTell w state → CopiersTell w (take_front w state server from queue)
   front_tells state server from [] q knows last all = all
   front_tells state server from (l ∷ rest) q knows last all = heard state knows last all from (1 + max (slice_index state.clocks server) l.clock) l rest server q
 
@@ -96,7 +96,7 @@ module _ (w : Workload) where
   step schedule p all =
       let s = run w schedule in
       subst (CopiersTell w) (sym (fold-append (pick w) (open_world w) schedule (p ∷ [])))
-      (front_tells s p.server p.from (link s.links p.server p.from) refl (versions.known w schedule) (versions.steps w [] schedule (record { versions = open_versions w; owers = λ k low t owed. absurd (true≢false (sym owed)) }) all)
+      (front_tells s p.server p.from (link s.links p.server p.from) refl (below.known w schedule) (below.steps w [] schedule (record { versions = open_versions w; owers = λ k low t owed. absurd (true≢false (sym owed)) }) all)
 
   steps : (before more : List Pick) → CopiersTell w (run w before) → CopiersTell w (run w (before ++ more))
   steps before [] all = subst (λ z. CopiersTell w (run w z)) (sym (append-nil before)) all
@@ -138,15 +138,14 @@ module _ (w : Workload) where
         sent = front_asked w state knows.says.reached k own.0 own.1 letter rest front ∙ ap (λ b. if b then last_session p (site (k + 1)) + 1 else last_session p (site (k + 1))) (ap is_hello is)
 
         up : session (vector w p) (site (k + 1)) ≡ letter.from
-        up = go (knows.says.reached.ledger.accounts (site (k + 1)) here_known).gone
-          where
-            go : {A B : Type 0} → ((session (vector w p) (site (k + 1)) ≡ 0) × A) ⊎ ((session (vector w p) (site (k + 1)) ≡ last_session p (site (k + 1))) × B) → session (vector w p) (site (k + 1)) ≡ letter.from
-            go (inl down) = absurd (let more = at_least (session (vector w p) (site (k + 1))) both.0 in let none = down.0 in omega (arith, more, none))
-            go (inr up) = up.0 ∙ sym sent
+        up = elim (knows.says.reached.ledger.accounts (site (k + 1)) here_known).gone [
+          | inl down ↦ absurd (let more = at_least (session (vector w p) (site (k + 1))) both.0 in let none = down.0 in omega (arith, more, none))
+          | inr same ↦ same.0 ∙ sym sent
+        ]
 
         some : 1 ≤ letter.from
         some = subst (λ z. 1 ≤ z) up (at_least (session (vector w p) (site (k + 1))) both.0)
 
   pub runs_told : (schedule : List Pick) (k : ℕ) (letter : Letter) (rest : List Letter) (x : Item) (v : ℕ) → link (run w schedule).links 1 (k + 2) ≡ letter ∷ rest → letter.message ≡ letters.CopyDone x v →
       (is_up w (noted (run w schedule).servers.sequencer.history) (site (k + 1)) && is_locked w (noted (run w schedule).servers.sequencer.history) (site (k + 1)) x) ≡ true → v ≡ version (noted (run w schedule).servers.sequencer.history) x
-  runs_told schedule = front_told (run w schedule) (versions.known w schedule) (runs_tell schedule)
+  runs_told schedule = front_told (run w schedule) (below.known w schedule) (runs_tell schedule)
