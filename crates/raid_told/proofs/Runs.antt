@@ -96,7 +96,7 @@ module _ (w : Workload) where
   step schedule p all =
       let s = run w schedule in
       subst (CopiersTell w) (sym (fold-append (pick w) (open_world w) schedule (p ∷ [])))
-      (front_tells s p.server p.from (link s.links p.server p.from) refl (below.known w schedule) (below.steps w [] schedule (record { versions = open_versions w; owers = λ k low t owed. absurd (true≢false (sym owed)) }) all)
+      (front_tells s p.server p.from (link s.links p.server p.from) refl (below.known w schedule) (below.steps w [] schedule (record { versions = open_versions w; owers = λ k low t owed. absurd (true≢false (sym owed)) })) all)
 
   steps : (before more : List Pick) → CopiersTell w (run w before) → CopiersTell w (run w (before ++ more))
   steps before [] all = subst (λ z. CopiersTell w (run w z)) (sym (append-nil before)) all

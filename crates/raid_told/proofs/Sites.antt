@@ -121,7 +121,7 @@ module _ (w : Workload) (state : World) (known : Known w state) (last : HaveLast
           go : SiteStep own from letter (hear_site w own from letter) → turn.state.session ≡ own.session
           go (steps.stops s) = s.session
           go (steps.returns s) = absurd (true≢false (sym says.heard.up ∙ s.before))
-          go (steps.stays s) = s.1.0
+          go (steps.stays s) = s.1
 
   sent : AllByRecursion (SiteSent w p j turn.state.session) turn.outs
   sent = go (step_copies w own from letter (known.says.homes j own at).ascend)
