@@ -19,7 +19,7 @@ use Rattle.raid_measure.specs.Measure.{events_of}
 use Rattle.raid_measure.proofs.Sums.{sum_grows, one_if}
 
 -- a site by its number is one of the workload's
-there : (k n : ℕ) (s : Site) → k ≤ s.0 → s.0 < k + n → has_site (map site (count_from k n)) s ≡ true
+pub there : (k n : ℕ) (s : Site) → k ≤ s.0 → s.0 < k + n → has_site (map site (count_from k n)) s ≡ true
 there k zero s low high = absurd (omega arith)
 there k (suc n) s low high = go (k == s.0) refl (λ l. there (k + 1) n s l (omega (arith, high)))
   where

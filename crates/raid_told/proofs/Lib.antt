@@ -1,0 +1,5 @@
+pub mod Entries
+pub mod Queues
+pub mod Runs
+pub mod Sequencer
+pub mod Sites
