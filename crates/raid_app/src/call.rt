@@ -33,7 +33,6 @@ pub struct Ended {
 /// | 4 | only where the source's count of faults rose in this call | nothing |
 /// | 5 | only where the sink's count of faults rose in this call | a front part of what was to be written |
 /// | 6 | memory was refused | nothing |
-/// | 7 | only where at least as many letters were taken as `rounds` has, and one is left | nothing |
 /// | 8 | exactly where a report that was judged isn't sound, and no fault of the sink came | what fails first |
 ///
 /// Each "exactly" yields to want of memory, those of 2, 3 and 8 to a failed write, those of 3 and 8 to a failed read.

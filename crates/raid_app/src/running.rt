@@ -5,7 +5,7 @@ ghost use Rattle.raid_report.specs.Known.{IsReportOf};
 ghost use Rattle.raid_app.specs.Answer as saying;
 
 use crate::answer::Answer;
-use crate::statuses::{DONE, SPENT};
+use crate::statuses::DONE;
 use raid_base::{Bytes, NoMemory, Report};
 use raid_control::{Controller, Rack};
 use raid_link::Gate;
@@ -39,8 +39,8 @@ fn told(
 }
 
 /// Runs the servers of a workload, each in a thread of its own, with this gate before each step. What is to be said of it is its report, which
-/// is truthful, or where `is_brief` holds its summary; or nothing, where a letter was left after at least as many picks as `rounds` has. Want of
-/// memory is the only error.
+/// is truthful, or where `is_brief` holds its summary. Want of memory is the only error: no run takes as many letters as `rounds` has, so none is cut
+/// off.
 pub fn run_workload<R: Threads + Sync, G: Gate>(
     rt: &R,
     alloc: Global,
@@ -57,11 +57,7 @@ pub fn run_workload<R: Threads + Sync, G: Gate>(
     let end = nodes.run(rt, alloc, workload, gate, rounds(workload))?;
     let schedule = nodes.schedule(alloc)?;
     match end {
-        Rounds::Spent => Ok(Answer {
-            status: SPENT,
-            text: None,
-            schedule,
-        }),
+        Rounds::Spent => unreachable!(),
         Rounds::Idle => {
             let report = nodes.report(alloc, workload)?;
             let text = told(alloc, is_brief, workload, &report)?;

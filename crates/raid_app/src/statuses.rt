@@ -18,8 +18,5 @@ pub const UNWRITTEN: u8 = 5;
 /// Memory was refused.
 pub const NO_MEMORY: u8 = 6;
 
-/// The servers took as many letters as `rounds` has, and one was left.
-pub const SPENT: u8 = 7;
-
 /// The report isn't sound.
 pub const UNSOUND: u8 = 8;

@@ -1,7 +1,7 @@
 use Rattle.std.proofs.Common.{◌≡◌, ◌≤◌, true, false, length, subst, sym, arith}
 use Rattle.raid_report.specs.Known.{IsReportOf}
 use Rattle.raid_steps.specs.World.{run, rounds}
-use Rattle.raid_app.specs.Answer.{spent}
+use Rattle.raid_finite.proofs.Ends.{run_ends}
 use Rattle.raid_known.proofs.Reached.{report_known}
 use Rattle.raid_app.proofs.Bound.{few_rounds}
 use Rattle.raid_app.proofs.Sayings.{said_report}
@@ -13,14 +13,14 @@ run-requires-clause-few g c = let few = few_rounds c.args.workload.now in omega 
 pub schedule-requires : goal.schedule-requires
 schedule-requires g c = let r = c.in_ok-end.ensures.ran in record { ran = (c.args.workload.now, r.0, r.1) }
 
-pub returns-in-Spent : goal.returns-in-Spent
-returns-in-Spent g c =
+-- a run that was cut off would be as long as none is
+pub unreachable-in-Spent : goal.unreachable-in-Spent
+unreachable-in-Spent g c =
     let w = c.args.workload.now in
-    let schedule = c.in_ok-schedule.schedule in
     let ran = c.in_ok-end.ensures.spent c.in-Spent.is in
     let few = ran.1 in
-    let long : rounds c.args.workload.now ≤ length c.in_ok-schedule.schedule = omega (arith, few, c.rounds.ensures, c.in_ok-schedule.ensures.long) in
-    spent schedule (c.in_ok-schedule.ensures.schedule w false ran.0) long (c.in_ok-schedule.ensures.idle w false ran.0)
+    let short = run_ends w c.in_ok-schedule.schedule (c.in_ok-schedule.ensures.schedule w false ran.0) in
+    omega (arith, few, c.rounds.ensures, c.in_ok-schedule.ensures.long, short)
 
 pub report-requires-clause-are : goal.report-requires-clause-are
 report-requires-clause-are g c =
