@@ -1,4 +1,5 @@
 use Rattle.std.proofs.Common.{ap, ◌∙◌, Err, sym}
+use Rattle.raid_app.specs.Lines.{unfit_line}
 use Rattle.raid_app.specs.Wanted.{told_of}
 use Rattle.raid_app.proofs.Findings.{first_unfit, judges_sound, judges_unfit, judges_unsound}
 use Rattle.raid_app.proofs.judging.answer_report.Goals as goal
@@ -16,4 +17,4 @@ returns-in-Ok g c =
 pub returns : goal.returns
 returns g c =
     judges_unfit (told_of c.args.wanted) c.args.workload.now c.args.text.now c.in-Err-Line.line c.saying-in-Err-Line.result c.in_ok-text-in-Err-Line.text
-    (first_unfit c.args.workload.now c.args.text.now _ c.parse.result (c.in-Err-Line.is ∙ ap Err c.in-Err-Line.field-0-is) c.parse.ensures.refused) c.saying-in-Err-Line.ensures c.in_ok-text-in-Err-Line.ensures
+    (first_unfit c.args.workload.now c.args.text.now _ c.parse.result (c.in-Err-Line.is ∙ ap Err c.in-Err-Line.field-0-is) c.parse.ensures.refused) c.saying-in-Err-Line.ensures (c.in_ok-text-in-Err-Line.ensures ∙ ap unfit_line c.in-Err-Line.line-is)
