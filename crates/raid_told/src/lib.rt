@@ -15,4 +15,3 @@ ghost use Rattle.raid_told.specs.Copiers.{CopiersTell};
 pub fn copiers_tell_the_version()
     ensures { (w : Workload) (schedule : List Pick) → CopiersTell w (run w schedule) }
 {}
-
