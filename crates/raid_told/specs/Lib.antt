@@ -1,2 +1,1 @@
 pub mod Copiers
-pub mod Told

@@ -8,8 +8,8 @@ ghost use Rattle.std.specs.Prelude.{List};
 ghost use Rattle.raid_workload.specs.declared.workload.Workload.{Workload};
 ghost use Rattle.raid_message.specs.declared.letter.Pick.{Pick};
 ghost use Rattle.raid_steps.specs.World.{run};
+ghost use Rattle.raid_ready.specs.Told.{CopiesAreTold};
 ghost use Rattle.raid_told.specs.Copiers.{CopiersTell};
-ghost use Rattle.raid_told.specs.Told.{CopiesAreTold};
 
 /// Whatever steps were taken: what is on its way for a locked copy at an up site is the item's version.
 #[tactic(auto, using(crate::proofs::Runs::runs_tell))]
