@@ -6,16 +6,12 @@ use Rattle.raid_steps.specs.World.{pick, run, finds, is_schedule, rounds}
 use Rattle.raid_measure.specs.Measure.{measure}
 use Rattle.raid_ends.specs.Hearing.{AreReady}
 use Rattle.raid_ends.proofs.Runs.{pick_falls, ends}
-use Rattle.raid_ready.specs.Told.{CopiesAreTold}
 use Rattle.raid_ready.proofs.Runs.{run_ready}
 use Rattle.raid_told.proofs.Runs.{runs_told}
 
 module _ (w : Workload) where
-  pub told : (schedule : List Pick) → CopiesAreTold w (run w schedule)
-  told = runs_told w
-
   pub ready : (schedule : List Pick) → AreReady w (run w schedule)
-  ready schedule = run_ready w schedule (told schedule)
+  ready schedule = run_ready w schedule (runs_told w schedule)
 
   pub run_ends : (schedule : List Pick) → is_schedule w schedule ≡ true → length schedule < rounds w
   run_ends = ends w ready

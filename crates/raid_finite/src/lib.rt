@@ -9,7 +9,6 @@ ghost use Rattle.raid_message.specs.declared.letter.Pick.{Pick};
 ghost use Rattle.raid_steps.specs.World.{pick, run, finds, is_schedule, rounds};
 ghost use Rattle.raid_measure.specs.Measure.{measure};
 ghost use Rattle.raid_ends.specs.Hearing.{AreReady};
-ghost use Rattle.raid_ready.specs.Told.{CopiesAreTold};
 
 /// Whatever a workload: each of its schedules is shorter than `rounds`. So whichever letters are taken first, after fewer picks none is left.
 #[tactic(auto, using(crate::proofs::Ends::run_ends))]
@@ -27,10 +26,4 @@ pub fn picks_of_runs_lower_the_measure()
 #[tactic(auto, using(crate::proofs::Ends::ready))]
 pub fn servers_are_ready()
     ensures { (w : Workload) (schedule : List Pick) → AreReady w (run w schedule) }
-{}
-
-/// Whatever steps were taken: where the sequencer hears next that the locked copy of an up site was renewed, it was brought to the item's version.
-#[tactic(auto, using(crate::proofs::Ends::told))]
-pub fn copies_are_told()
-    ensures { (w : Workload) (schedule : List Pick) → CopiesAreTold w (run w schedule) }
 {}

@@ -1,6 +1,5 @@
 -- In every run all servers may hear what they might take next, where copies are told as they should be; and so runs end.
-use Rattle.std.proofs.Common.{◌≡◌, ℕ, ◌+◌, ◌<◌, true, List, length, Some}
-use Rattle.std.specs.Prelude.{slice_get}
+use Rattle.std.proofs.Common.{◌≡◌, ◌<◌, true, List, length}
 use Rattle.raid_workload.specs.declared.workload.Workload.{Workload}
 use Rattle.raid_message.specs.declared.letter.Pick.{Pick}
 use Rattle.raid_steps.specs.World.{run, is_schedule, rounds}

@@ -1,5 +1,5 @@
 -- In every run each site is ready for the letters that it may take next.
-use Rattle.std.proofs.Common.{◌≡◌, inl, inr, ℕ, suc, ◌+◌, ◌<◌, ◌≤◌, ◌==◌, Bool, true, false, not, List, [], ◌∷◌, ◌++◌, Some, arith, sym, subst, ap, ◌∙◌, refl}
+use Rattle.std.proofs.Common.{◌≡◌, inl, inr, ℕ, ◌+◌, ◌<◌, ◌≤◌, ◌==◌, true, false, List, [], ◌∷◌, Some, arith, sym, subst, ap, ◌∙◌}
 use Rattle.std.specs.Prelude.{slice_get}
 use Rattle.std.specs.List.{AllByRecursion, list_any}
 use Rattle.std.proofs.lemmas.Bool.{eqb-true, true≢false}
@@ -19,7 +19,6 @@ use Rattle.raid_message.specs.declared.letter.Pick.{Pick}
 use Rattle.raid_steps.specs.State.{Turn, Running, SiteState}
 use Rattle.raid_steps.specs.Programs.{runs_here, next_attempt}
 use Rattle.raid_steps.specs.World.{World, link, run}
-use Rattle.raid_sessions.proofs.Holds.{Holds}
 use Rattle.raid_moves.specs.Moves.{Hears, Tells, drops, Starts, at_welcome, at_done, at_drop, next_of, Reached}
 use Rattle.raid_moves.proofs.Places.{self}
 use Rattle.raid_ends.specs.Ready.{MayTakeUp, Ready}
@@ -27,7 +26,7 @@ use Rattle.raid_ends.proofs.Together.{run_few}
 use Rattle.raid_asks.proofs.Begins.{All, reached_all}
 use Rattle.raid_asks.proofs.Cares.{Stage, stopped, asleep, fresh, awake}
 use Rattle.raid_asks.proofs.Homes.{Housed}
-use Rattle.raid_asks.proofs.Line.{NoDrop, NoteOk, Promise, CountsAt}
+use Rattle.raid_asks.proofs.Line.{NoteOk}
 use Rattle.raid_asks.proofs.Notes.{IsPlain, WelcomeOk, Welcoming}
 use Rattle.raid_asks.proofs.Reached.{run_home}
 use Rattle.raid_asks.proofs.Waits.{below, within}

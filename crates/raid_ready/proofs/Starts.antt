@@ -10,18 +10,16 @@ use Rattle.raid_base.specs.Sites.{site}
 use Rattle.raid_workload.specs.declared.workload.Workload.{Workload}
 use Rattle.raid_workload.specs.Parts.{home}
 use Rattle.raid_rules.specs.History.{has_begun}
-use Rattle.raid_message.specs.declared.letter.Message.{Message}
 use Rattle.raid_message.specs.declared.letter.Message.TheVariants as letters
 use Rattle.raid_message.specs.declared.letter.Letter.{Letter}
 use Rattle.raid_steps.specs.State.{Turn, Running, SiteState}
 use Rattle.raid_steps.specs.Programs.{runs_here, following, next_attempt}
-use Rattle.raid_moves.specs.Moves.{Ascend, Tells, drops, Row, next_of, Reached}
+use Rattle.raid_moves.specs.Moves.{Ascend, Tells, drops, next_of, Reached}
 use Rattle.raid_moves.proofs.Places.{all_found, all_kept, one_found, program_of, found_txn}
 use Rattle.raid_moves.proofs.Steps.{ascend_row}
 use Rattle.raid_ends.specs.Ready.{MayTakeUp}
 use Rattle.raid_asks.proofs.Least.{Ours, ours_next}
-use Rattle.raid_asks.proofs.Line.{FineAt, NoDrop, NoteOk, Promise, CountsAt, FineNow, CountsNow, next_counts, next_begins, begins_again}
-use Rattle.raid_asks.proofs.Notes.{IsPlain, WelcomeOk, Welcoming}
+use Rattle.raid_asks.proofs.Line.{FineAt, NoDrop, Promise, CountsAt, FineNow, CountsNow, next_counts, next_begins, begins_again}
 use Rattle.raid_asks.proofs.Programs.{Keeps, Kept, BeginsNext, BeginsAgain, rowed, moves_keep}
 
 -- what holds of each that runs

@@ -46,7 +46,6 @@ pub fn transactions_told_to_be_over_have_begun()
 
 /// Whatever steps were taken: each site is ready for the front letter of each of its links. What begins in its step is a transaction of its own that
 /// hasn't begun, and doesn't run.
-#[tactic(auto, using(crate::proofs::Sites::run_sites))]
 pub fn sites_are_ready()
     ensures { (w : Workload) (schedule : List Pick) (k : ℕ) (s : SiteState) → slice_get (run w schedule).servers.sites k ≡ Some s → (from : ℕ) (letter : Letter) (rest : List Letter) → link (run w schedule).links (k + 2) from ≡ letter ∷ rest → Ready w (noted (run w schedule).servers.sequencer.history) s from letter }
 {}

@@ -1,7 +1,6 @@
 -- In every run, copiers tell the versions of the items whose copies wait for them.
-use Rattle.std.proofs.Common.{◌≡◌, ◌⊎◌, inl, inr, ℕ, zero, suc, ◌+◌, ◌-◌, ◌<◌, ◌≤◌, ◌==◌, nat_lt, Bool, true, false, ◌&&◌, List, [], ◌∷◌, ◌++◌, Option, Some, None, if◌then◌else◌, arith, sym, subst, ap, ◌∙◌, refl, append-nil, append_assoc}
-use Rattle.std.specs.Prelude.{⊤, max, slice_get, slice_set, slice_index}
-use Rattle.std.specs.List.{AllByRecursion}
+use Rattle.std.proofs.Common.{◌≡◌, inl, inr, ℕ, zero, suc, ◌+◌, ◌-◌, ◌<◌, ◌≤◌, nat_lt, true, ◌&&◌, List, [], ◌∷◌, ◌++◌, Option, Some, None, if◌then◌else◌, arith, sym, subst, ap, ◌∙◌, refl, append-nil, append_assoc}
+use Rattle.std.specs.Prelude.{max, slice_get, slice_index}
 use Rattle.std.specs.Option.{option_map_or}
 use Rattle.std.proofs.lemmas.Bool.{and_parts, true≢false}
 use Rattle.std.proofs.lemmas.List.Sums.{fold-append}
@@ -30,12 +29,12 @@ use Rattle.raid_sessions.proofs.Lists.{get_below, get_known, get_set}
 use Rattle.raid_sessions.proofs.Mail.{moved}
 use Rattle.raid_sessions.proofs.Reached.{from_below}
 use Rattle.raid_letters.specs.Says.{is_held}
-use Rattle.raid_versions.proofs.Chain.{OwersAreUp, opens, known}
+use Rattle.raid_versions.proofs.Chain.{opens, known}
 use Rattle.raid_versions.proofs.Opening.{IsWelcome, AreWelcomes, welcomes, open_versions}
 use Rattle.raid_versions.proofs.Owed.{Known}
 use Rattle.raid_versions.proofs.Runs as below
 use Rattle.raid_versions.proofs.Steps.{hear_steps}
-use Rattle.raid_told.specs.Copiers.{IsCurrent, Asks, Speaks, AskAlong, QueueTells, LinksTell, CopiersTell}
+use Rattle.raid_told.specs.Copiers.{IsCurrent, Asks, Speaks, QueueTells, LinksTell, CopiersTell}
 use Rattle.raid_told.proofs.Queues.{monitor_posts, front_taken}
 use Rattle.raid_told.proofs.Sequencer.{steps_tell}
 use Rattle.raid_told.proofs.Sites.{site_tells}

@@ -1,11 +1,9 @@
 -- The sequencer's step, entry by entry, keeps what copiers are told and tell.
-use Rattle.std.proofs.Common.{◌≡◌, ◌⊎◌, inl, inr, ℕ, zero, suc, ◌+◌, ◌-◌, ◌<◌, ◌≤◌, Bool, true, false, List, [], ◌∷◌, ◌++◌, length, map, fold, if◌then◌else◌, arith, sym, subst, ap, ◌∙◌, refl}
+use Rattle.std.proofs.Common.{◌≡◌, inl, inr, ℕ, zero, suc, ◌+◌, ◌-◌, ◌≤◌, Bool, true, false, List, [], ◌∷◌, length, map, fold, if◌then◌else◌, arith, sym, subst, ap}
 use Rattle.std.specs.List.{AllByRecursion}
 use Rattle.std.proofs.lemmas.List.Sums.{fold-append}
-use Rattle.raid_base.specs.declared.names.Txn.{Txn}
 use Rattle.raid_base.specs.declared.names.Item.{Item}
 use Rattle.raid_base.specs.declared.names.Site.{Site}
-use Rattle.raid_base.specs.declared.request.Request.{Request}
 use Rattle.raid_base.specs.declared.entry.Entry.{Entry}
 use Rattle.raid_base.specs.declared.entry.Entry.TheVariants.{Read, Commit, Abort, Down, Up}
 use Rattle.raid_base.specs.declared.entry.Noted.{Noted}
@@ -17,26 +15,24 @@ use Rattle.raid_rules.specs.History.{noted, add, next}
 use Rattle.raid_rules.specs.Sessions.{last_session, turn_last, turn_vector}
 use Rattle.raid_rules.proofs.Push.{noted_push, vector_push}
 use Rattle.raid_legal.specs.Seen.{vector}
-use Rattle.raid_message.specs.declared.letter.Message.{Message}
 use Rattle.raid_message.specs.declared.letter.Message.TheVariants as letters
 use Rattle.raid_message.specs.declared.letter.Letter.{Letter}
 use Rattle.raid_placed.specs.Placed.{Placeable}
 use Rattle.raid_sessions.proofs.Ledger.{session_set}
 use Rattle.raid_sessions.proofs.Lists.{all_weaken}
 use Rattle.raid_steps.specs.Fits.{knows_site}
-use Rattle.raid_steps.specs.State.{Out, Turn, Sequencer, Copying, to_site}
+use Rattle.raid_steps.specs.State.{Turn, Sequencer, Copying}
 use Rattle.raid_steps.specs.Sequencer as rows
 use Rattle.raid_steps.specs.Sequencer.{so_far, place}
 use Rattle.raid_steps.specs.World.{link, post}
-use Rattle.raid_letters.specs.Says.{is_held}
 use Rattle.raid_versions.specs.Versions.{was_written}
 use Rattle.raid_versions.proofs.Mid.{last_push, sized_push}
 use Rattle.raid_versions.proofs.Sent.{SendsOf, sends_of}
-use Rattle.raid_versions.proofs.Steps.{IsDue, AreDue, Why, Steps, done, placed, renews, counts, passes}
+use Rattle.raid_versions.proofs.Steps.{AreDue, Why, Steps, done, placed, renews, counts, passes}
 use Rattle.raid_versions.proofs.Written.{at_parts, numbered, long_push}
 use Rattle.raid_told.specs.Copiers.{Awaits, Asks, Speaks, QueueTells, LinksTell}
 use Rattle.raid_told.proofs.Entries.{none_waits, speaks_on, along_on}
-use Rattle.raid_told.proofs.Queues.{Joins, Sent, sequencer_posts}
+use Rattle.raid_told.proofs.Queues.{Sent, sequencer_posts}
 
 module _ (w : Workload) where
   -- each site has its place in the vector, and none is in a session after its last

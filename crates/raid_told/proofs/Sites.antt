@@ -1,6 +1,6 @@
 -- Each step of a site keeps what copiers tell: a source that is told to send its copy has the item's version, and what comes is told of.
-use Rattle.std.proofs.Common.{◌≡◌, ◌≢◌, ◌⊎◌, inl, inr, ℕ, ℤ, zero, suc, ◌+◌, ◌-◌, ◌<◌, ◌≤◌, ◌==◌, nat_le, Bool, true, false, ◌&&◌, ◌||◌, List, [], ◌∷◌, Some, arith, sym, subst, ap, ◌∙◌, refl}
-use Rattle.std.specs.Prelude.{⊤, slice_get}
+use Rattle.std.proofs.Common.{◌≡◌, ◌⊎◌, inl, inr, ℕ, ℤ, suc, ◌+◌, ◌-◌, ◌≤◌, ◌==◌, Bool, true, false, ◌&&◌, List, [], ◌∷◌, Some, arith, sym, subst, ap, ◌∙◌}
+use Rattle.std.specs.Prelude.{slice_get}
 use Rattle.std.specs.List.{AllByRecursion}
 use Rattle.std.proofs.lemmas.Bool.{eqb-true, true≢false}
 use Rattle.raid_base.specs.declared.names.Item.{Item}
@@ -9,7 +9,6 @@ use Rattle.raid_base.specs.declared.entry.Noted.{Noted}
 use Rattle.raid_base.specs.Sites.{session, site}
 use Rattle.raid_workload.specs.declared.workload.Workload.{Workload}
 use Rattle.raid_rules.specs.History.{noted, version}
-use Rattle.raid_rules.specs.Sessions.{last_session, is_copy_locked}
 use Rattle.raid_legal.specs.Seen.{vector}
 use Rattle.raid_message.specs.declared.letter.Message.{Message}
 use Rattle.raid_message.specs.declared.letter.Message.TheVariants as letters
@@ -27,7 +26,7 @@ use Rattle.raid_sessions.proofs.Site.{SiteStep, site_step}
 use Rattle.raid_sessions.proofs.Site as steps
 use Rattle.raid_asks.proofs.Facts.{or_parts}
 use Rattle.raid_moves.specs.Moves.{Tells, Says}
-use Rattle.raid_letters.specs.Says.{is_held, NoteSays, CopyDoSays}
+use Rattle.raid_letters.specs.Says.{NoteSays, CopyDoSays}
 use Rattle.raid_letters.proofs.Runs.{LetterSays, QueueSays}
 use Rattle.raid_versions.specs.Versions.{was_written, IsLive, applies, is_pending, latest, NonePending, HaveLastVersions}
 use Rattle.raid_versions.proofs.Links.{IsUnapplied, after_none, latest_quiet}

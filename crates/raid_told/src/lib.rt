@@ -8,6 +8,7 @@ ghost use Rattle.std.specs.Prelude.{List};
 ghost use Rattle.raid_workload.specs.declared.workload.Workload.{Workload};
 ghost use Rattle.raid_message.specs.declared.letter.Pick.{Pick};
 ghost use Rattle.raid_steps.specs.World.{run};
+ghost use Rattle.raid_ready.specs.Told.{CopiesAreTold};
 ghost use Rattle.raid_told.specs.Copiers.{CopiersTell};
 
 /// Whatever steps were taken: what is on its way for a locked copy at an up site is the item's version.
@@ -16,3 +17,8 @@ pub fn copiers_tell_the_version()
     ensures { (w : Workload) (schedule : List Pick) → CopiersTell w (run w schedule) }
 {}
 
+/// Whatever steps were taken: where the sequencer hears next that the locked copy of an up site was renewed, it was brought to the item's version.
+#[tactic(auto, using(crate::proofs::Runs::runs_told))]
+pub fn copies_are_told()
+    ensures { (w : Workload) (schedule : List Pick) → CopiesAreTold w (run w schedule) }
+{}
