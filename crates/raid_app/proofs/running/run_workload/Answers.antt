@@ -14,8 +14,8 @@ pub schedule-requires : goal.schedule-requires
 schedule-requires g c = let r = c.in_ok-end.ensures.ran in record { ran = (c.args.workload.now, r.0, r.1) }
 
 -- a run that was cut off would be as long as none is
-pub unreachable-in-Spent : goal.unreachable-in-Spent
-unreachable-in-Spent g c =
+pub unreachable-requires : goal.unreachable-requires
+unreachable-requires g c =
     let w = c.args.workload.now in
     let ran = c.in_ok-end.ensures.spent c.in-Spent.is in
     let few = ran.1 in
