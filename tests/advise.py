@@ -3,8 +3,8 @@
     advise.py COUNT SEED --program RAID
     advise.py COUNT SEED --cases FOLDER
 
-COUNT reports are advised on, each with a drawn `--last`: those of runs whose letters are taken in a random order, and after every third one that
-one changed in one place. The program RAID gets them one at a time, and its status and line are compared with the model's. Or the cases are put into
+COUNT reports are advised on, each with a drawn `--last`: those of runs whose letters are taken in a random order, and behind every third of these the
+same changed in one place. The program RAID gets them one at a time, and its status and line are compared with the model's. Or the cases are put into
 FOLDER, as `rt try --cases` reads them: NAME, NAME.args and NAME.stdout.
 """
 import argparse
