@@ -1,4 +1,4 @@
-use Rattle.std.proofs.Common.{◌≡◌, ◌≤◌, true, false, length, subst, sym, arith}
+use Rattle.std.proofs.Common.{◌≤◌, true, false, length, subst, sym, arith}
 use Rattle.raid_report.specs.Known.{IsReportOf}
 use Rattle.raid_steps.specs.World.{run, rounds}
 use Rattle.raid_finite.proofs.Ends.{run_ends}
