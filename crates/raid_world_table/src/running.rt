@@ -1,6 +1,6 @@
 //! A schedule that a new world takes.
 
-ghost use Rattle.std.specs.Prelude.{◌≡◌, true, IfOk, OnOk};
+ghost use Rattle.std.specs.Prelude.{◌≡◌, true, OnOk};
 ghost use Rattle.raid_force.specs.Lasting.{AreClear, are_whole};
 ghost use Rattle.raid_world_table.specs.Reached.{Reached};
 
@@ -109,13 +109,10 @@ fn run_in_order(alloc: Global, workload: &Workload, rack: Rack) -> Result<Bytes>
     told(alloc, workload, &world)
 }
 
-/// A rack with controllers of every kind.
-fn new_rack(alloc: Global) -> Result<Rack>
-    ensures whole { IfOk result (λ rack. are_whole ⟦<dyn Controller as Controller>⟧ rack.slots.items ≡ true) }
-    ensures clear { IfOk result (λ rack. AreClear ⟦<dyn Controller as Controller>⟧ rack.slots.items) }
-{
+/// What comes of the picks in a new world.
+pub fn run_schedule(alloc: Global, workload: &Workload, picks: &[Pick]) -> Result<End> {
     let made = Controllers::new(alloc)?;
-    Ok(full_rack(
+    let rack = full_rack(
         alloc,
         made.lock,
         made.stamp,
@@ -123,17 +120,21 @@ fn new_rack(alloc: Global) -> Result<Rack>
         made.graph,
         made.first,
         made.second,
-    )?)
-}
-
-/// What comes of the picks in a new world.
-pub fn run_schedule(alloc: Global, workload: &Workload, picks: &[Pick]) -> Result<End> {
-    let rack = new_rack(alloc)?;
+    )?;
     run(alloc, workload, rack, picks)
 }
 
 /// The print of the report of a run in the fixed order.
 pub fn run_fixed(alloc: Global, workload: &Workload) -> Result<Bytes> {
-    let rack = new_rack(alloc)?;
+    let made = Controllers::new(alloc)?;
+    let rack = full_rack(
+        alloc,
+        made.lock,
+        made.stamp,
+        made.valid,
+        made.graph,
+        made.first,
+        made.second,
+    )?;
     run_in_order(alloc, workload, rack)
 }
