@@ -18,8 +18,9 @@ def peak_memory(command, text):
     with tempfile.TemporaryFile() as given, tempfile.NamedTemporaryFile() as told:
         given.write(text)
         given.seek(0)
-        subprocess.run([TIME, "-f", "%M", "-o", told.name, *command], stdin=given, stdout=subprocess.DEVNULL, check=True)
-        return f"{int(told.read()) / 1024:.0f} MB"
+        subprocess.run([TIME, "-f", "%M", "-o", told.name, *command], stdin=given, stdout=subprocess.DEVNULL, check=False)
+        # (the last line, behind one that tells of a status other than 0)
+        return f"{int(told.read().split()[-1]) / 1024:.0f} MB"
 
 
 def instructions(command, text):
