@@ -3,8 +3,8 @@
     allocations.py PROGRAM REFUSER
 
 REFUSER is tests/refuse.c, built as a library that the program is started with. Where an allocation is refused, the call has to end with status 6
-and nothing written, or as it does where none is refused. Once 50 refusals in a row make no difference, each allocation has had its turn. The
-calls are spread over the processors.
+and nothing written, or as it does where none is refused. Once 50 refusals in a row make no difference, each allocation has had its turn. Of the
+larger calls every fortieth has it; RAID_STEP=1 takes each of them, which is a matter of many minutes. The calls are spread over the processors.
 """
 import concurrent.futures
 import itertools
@@ -13,6 +13,8 @@ import subprocess
 import sys
 
 IN_A_ROW = 50
+# Of the allocations of a larger call only each of so many is refused.
+STEP = int(os.environ.get("RAID_STEP", "40"))
 # More allocations than any of the calls below takes.
 MOST = 200_000
 NO_MEMORY = 6
@@ -35,10 +37,10 @@ def transfers():
 
 
 class Call:
-    """A command with its input, and what its output has to be where nothing is refused."""
+    """A command with its input, and what its output has to be where nothing is refused; of its allocations each of so many is refused."""
 
-    def __init__(self, name, command, text, is_right):
-        self.name, self.command, self.text, self.is_right = name, command, text, is_right
+    def __init__(self, name, command, text, is_right, step=1):
+        self.name, self.command, self.text, self.is_right, self.step = name, command, text, is_right, step
 
     def tried(self, refuser, number):
         """Whether the refusal of the allocation with this number was noticed; None where the call ended as it may not."""
@@ -54,18 +56,19 @@ class Call:
     def all_tried(self, refuser):
         """Refuses one after another, and tells how many were noticed; whether all is well."""
         noticed, last = 0, 0
-        workers = len(os.sched_getaffinity(0))
+        workers, batch = len(os.sched_getaffinity(0)), IN_A_ROW * self.step
         with concurrent.futures.ThreadPoolExecutor(workers) as pool:
-            for first in itertools.count(1, IN_A_ROW):
-                numbers = range(first, first + IN_A_ROW)
+            for first in itertools.count(1, batch):
+                numbers = range(first, first + batch, self.step)
                 for number, was_noticed in zip(numbers, pool.map(lambda it: self.tried(refuser, it), numbers)):
                     if was_noticed is None:
                         return False
                     if was_noticed:
                         noticed, last = noticed + 1, number
-                    elif number - last >= IN_A_ROW:
-                        print(f"allocations: {self.name}: {number} refused in turn, {noticed} of them ended it with status {NO_MEMORY} and "
-                              "nothing written, and the others changed nothing")
+                    elif number - last >= batch:
+                        each = "each" if self.step == 1 else f"every {self.step}th"
+                        print(f"allocations: {self.name}: of the first {number} {each} refused in turn, {noticed} of them ended it with status "
+                              f"{NO_MEMORY} and nothing written, and the others changed nothing", flush=True)
                         return noticed > 0
                 if first > MOST:
                     print(f"allocations: {self.name}: more than {MOST} allocations")
@@ -88,9 +91,9 @@ def calls(program):
     return [
         Call("a run of one site", [program, "run"], workload, lambda written: written == report),
         Call("a check of its report", [program, "check"], workload + report, lambda written: written == b"sound\n"),
-        Call("a run of 200 programs at three sites", [program, "run"], large, is_sound),
-        Call("a check of its report", [program, "check"], large + large_report, lambda written: written == b"sound\n"),
-        Call("200 programs made", [program, "make", "--seed", "1", "--count", "200"], b"", lambda written: written.endswith(b"\ndone\n")),
+        Call("a run of 200 programs at three sites", [program, "run"], large, is_sound, STEP),
+        Call("a check of its report", [program, "check"], large + large_report, lambda written: written == b"sound\n", STEP),
+        Call("200 programs made", [program, "make", "--seed", "1", "--count", "200"], b"", lambda written: written.endswith(b"\ndone\n"), STEP),
     ]
 
 
