@@ -197,3 +197,201 @@ module _ (w : Workload) (k : ℕ) where
           comes = ap (λ ls. to_come s.session s.vector (notes ++ ls)) is ∙ one_more s.session s.vector notes l to ∙ ap (λ v. told_by v l.message) c.comes ∙ turns ∙ sym vector_now;
           welcomed = elim c.welcomed [ inl a ↦ inl a | inr a ↦ inr (first_on (site (k + 1)) s.session notes new a) ];
         }
+
+      -- a site goes down
+      falls : (h : List Entry) (r : Site) (ask : ℕ) → knows_site w r ≡ true → (notes : List Letter) → Mid (noted h) notes → Mid (noted (h ++ Down r ∷ [])) (notes ++ sent w from letter first k clock (noted (h ++ Down r ∷ [])) ask (Down r))
+      falls h r ask known notes mid = go (is_site (site (k + 1)) r) refl
+        where
+          q : List Noted
+          q = noted (h ++ Down r ∷ [])
+
+          its : Bool → List Letter
+          its b = gets k clock (vector w (noted (h ++ Down r ∷ []))) (letters.DownNote r) (is_up w (noted (h ++ Down r ∷ []))) b
+
+          l : Letter
+          l = its_letter k clock (vector w (noted (h ++ Down r ∷ []))) (letters.DownNote r) (is_up w (noted (h ++ Down r ∷ [])))
+
+          new_is : sent w from letter first k clock (noted (h ++ Down r ∷ [])) ask (Down r) ≡ gets k clock (vector w (noted (h ++ Down r ∷ []))) (letters.DownNote r) (is_up w (noted (h ++ Down r ∷ []))) (is_up w (noted (h ++ Down r ∷ [])) (site (k + 1)))
+          new_is = one_gets k clock (vector w (noted (h ++ Down r ∷ []))) (letters.DownNote r) (is_up w (noted (h ++ Down r ∷ []))) 1 w.sites (omega arith) (omega (arith, low))
+
+          session_is : session (vector w (noted (h ++ Down r ∷ []))) (site (k + 1)) ≡ (if is_site (site (k + 1)) r then 0 else session (vector w (noted h)) (site (k + 1)))
+          session_is = ap (λ v. session v (site (k + 1))) (vector_now h (Down r) ask known notes mid) ∙ session_set w (vector w (noted h)) r (site (k + 1)) 0 mid.long known known_here
+
+          lasts : last_session (noted (h ++ Down r ∷ [])) (site (k + 1)) ≡ last_session (noted h) (site (k + 1))
+          lasts = last_now h (Down r) ask known notes mid
+
+          its_fit : is_site (site (k + 1)) r ≡ false → (b : Bool) → AllByRecursion Fitting (gets k clock (vector w (noted (h ++ Down r ∷ []))) (letters.DownNote r) (is_up w (noted (h ++ Down r ∷ []))) b)
+          its_fit c true = ((known, c), tt)
+          its_fit c false = tt
+
+          go : (c : Bool) → is_site (site (k + 1)) r ≡ c → Mid (noted (h ++ Down r ∷ [])) (notes ++ sent w from letter first k clock (noted (h ++ Down r ∷ [])) ask (Down r))
+          go true c =
+              whole h (Down r) ask known notes mid (let z = down in omega (arith, z)) (let z = lasts in omega (arith, z))
+              (subst (AllByRecursion Fitting) (sym (new_is ∙ ap (gets k clock (vector w (noted (h ++ Down r ∷ []))) (letters.DownNote r) (is_up w (noted (h ++ Down r ∷ [])))) (ap (nat_lt 0) down))) tt)
+              (λ t. absurd (let z = down in let y = t.told in omega (arith, z, y, some)))
+            where
+              down : session (vector w (noted (h ++ Down r ∷ []))) (site (k + 1)) ≡ 0
+              down = session_is ∙ ap (λ b. if b then 0 else session (vector w (noted h)) (site (k + 1))) c
+          go false c =
+              whole h (Down r) ask known notes mid (let z = same in let y = lasts in let x = mid.most in omega (arith, x, y, z)) (let z = lasts in omega (arith, z))
+              (subst (AllByRecursion Fitting) (sym new_is) (its_fit c (is_up w (noted (h ++ Down r ∷ [])) (site (k + 1)))))
+              (λ t. told_one h (Down r) ask known notes mid l (new_is ∙ ap (gets k clock (vector w (noted (h ++ Down r ∷ []))) (letters.DownNote r) (is_up w (noted (h ++ Down r ∷ [])))) (ap (nat_lt 0) t.told ∙ positive s.session some)) (is_same (session (vector w (noted (h ++ Down r ∷ []))) (site (k + 1))) s.session t.told) refl (mid.comes (record { up = t.up; told = sym same ∙ t.told })))
+            where
+              same : session (vector w (noted (h ++ Down r ∷ []))) (site (k + 1)) ≡ session (vector w (noted h)) (site (k + 1))
+              same = session_is ∙ ap (λ b. if b then 0 else session (vector w (noted h)) (site (k + 1))) c
+
+      -- a site comes up
+      module _ (h : List Entry) (r : Site) (n ask : ℕ) (known : knows_site w r ≡ true) (more : last_session (noted h) r < n) (notes : List Letter) (mid : Mid (noted h) notes) where
+        abbrev risen : List Noted
+        risen = noted (h ++ Up r n ∷ [])
+
+        abbrev others : Site → Bool
+        others x = is_up w (noted (h ++ Up r n ∷ [])) x && not (is_site r x)
+
+        abbrev its : Bool → List Letter
+        its b = gets k clock (vector w (noted (h ++ Up r n ∷ []))) (letters.UpNote r n) others b
+
+        abbrev l : Letter
+        l = its_letter k clock (vector w (noted (h ++ Up r n ∷ []))) (letters.UpNote r n) others
+
+        abbrev welcome : Letter
+        welcome = letter_of 0 clock (to_site (vector w (noted (h ++ Up r n ∷ []))) r (letters.Welcome (vector w (noted (h ++ Up r n ∷ []))) (rows.next_number w (noted (h ++ Up r n ∷ [])) r)))
+
+        abbrev left : List Letter
+        left = letters_to (k + 2) 0 clock (map (λ x. to_site (vector w (noted (h ++ Up r n ∷ []))) x (letters.UpNote r n)) (filter others (sites w)))
+
+        left_is : left ≡ its (others (site (k + 1)))
+        left_is = one_gets k clock (vector w (noted (h ++ Up r n ∷ []))) (letters.UpNote r n) others 1 w.sites (omega arith) (omega (arith, low))
+
+        session_is : session (vector w (noted (h ++ Up r n ∷ []))) (site (k + 1)) ≡ (if is_site (site (k + 1)) r then n else session (vector w (noted h)) (site (k + 1)))
+        session_is = ap (λ v. session v (site (k + 1))) (vector_now h (Up r n) ask (known, more) notes mid) ∙ session_set w (vector w (noted h)) r (site (k + 1)) n mid.long known known_here
+
+        lasts : last_session (noted (h ++ Up r n ∷ [])) (site (k + 1)) ≡ (if is_site (site (k + 1)) r then n else last_session (noted h) (site (k + 1)))
+        lasts = last_now h (Up r n) ask (known, more) notes mid
+
+        number : (b : Bool) (a j : ℕ) → (a == j + 1) ≡ b → (a + 1 == j + 2) ≡ b
+        number true a j e = grind (arith, e)
+        number false a j e = grind (arith, e)
+
+        turned : (b : Bool) (a j : ℕ) → (a == j + 1) ≡ b → (j + 1 == a) ≡ b
+        turned true a j e = grind (arith, e)
+        turned false a j e = grind (arith, e)
+
+        new_is : (b : Bool) → is_site (site (k + 1)) r ≡ b → sent w from letter first k clock (noted (h ++ Up r n ∷ [])) ask (Up r n) ≡ (if b then welcome ∷ left else left)
+        new_is b c = ap (λ d. if d then welcome ∷ left else left) (number b r.0 k c)
+
+        its_fit : is_site (site (k + 1)) r ≡ false → (b : Bool) → AllByRecursion Fitting (its b)
+        its_fit c true = ((known, c), tt)
+        its_fit c false = tt
+
+        none : (a b : Bool) → b ≡ true → (a && not b) ≡ false
+        none true true e = refl
+        none false true e = refl
+        none a false e = absurd (true≢false (sym e))
+
+        both : (a b : Bool) → a ≡ true → b ≡ false → (a && not b) ≡ true
+        both true false e f = refl
+        both a true e f = absurd (true≢false f)
+        both false b e f = absurd (true≢false (sym e))
+
+        rises : Mid (noted (h ++ Up r n ∷ [])) (notes ++ sent w from letter first k clock (noted (h ++ Up r n ∷ [])) ask (Up r n))
+        rises = go (is_site (site (k + 1)) r) refl
+          where
+            go : (c : Bool) → is_site (site (k + 1)) r ≡ c → Mid (noted (h ++ Up r n ∷ [])) (notes ++ sent w from letter first k clock (noted (h ++ Up r n ∷ [])) ask (Up r n))
+            go true c =
+                whole h (Up r n) ask (known, more) notes mid (let a = up in let b = last in omega (arith, a, b)) (let b = last in let m = before in omega (arith, b, m))
+                (subst (AllByRecursion Fitting) (sym alone) ((fits, ap (session (vector w (noted (h ++ Up r n ∷ [])))) here_is), tt)) comes
+              where
+                here_is : site (k + 1) ≡ r
+                here_is = ap (λ i. let x : Site = record { 0 = i } in x) (sym (eqb-true r.0 (k + 1) c))
+
+                up : session (vector w (noted (h ++ Up r n ∷ []))) (site (k + 1)) ≡ n
+                up = session_is ∙ ap (λ b. if b then n else session (vector w (noted h)) (site (k + 1))) c
+
+                last : last_session (noted (h ++ Up r n ∷ [])) (site (k + 1)) ≡ n
+                last = lasts ∙ ap (λ b. if b then n else last_session (noted h) (site (k + 1))) c
+
+                before : last_session (noted h) (site (k + 1)) < n
+                before = subst (λ z. last_session (noted h) z < n) (sym here_is) more
+
+                alone : sent w from letter first k clock (noted (h ++ Up r n ∷ [])) ask (Up r n) ≡ welcome ∷ []
+                alone = new_is true c ∙ ap (λ ls. welcome ∷ ls) (left_is ∙ ap its (none (is_up w (noted (h ++ Up r n ∷ [])) (site (k + 1))) (is_site r (site (k + 1))) (turned true r.0 k c)))
+
+                small : (a most : ℕ) → a < 1 + most → nat_le a most ≡ true
+                small a most z = grind (arith, z)
+
+                least : (a most : ℕ) → a ≡ 0 → nat_le a most ≡ true
+                least a most z = grind (arith, z)
+
+                few : nat_le (rows.next_number w (noted (h ++ Up r n ∷ [])) r) (length w.programs * (w.restarts + 1)) ≡ true
+                few = elim (next_ours w k (noted (h ++ Up r n ∷ [])) r) [
+                  | inl zero_is ↦ least (rows.next_number w risen r) (length w.programs * (w.restarts + 1)) zero_is
+                  | inr found ↦ small (rows.next_number w risen r) (length w.programs * (w.restarts + 1)) (known_txn w (record { 0 = rows.next_number w risen r }) found.1.ours.known).1
+                ]
+
+                fits : is_of_sequencer w (letters.Welcome (vector w (noted (h ++ Up r n ∷ []))) (rows.next_number w (noted (h ++ Up r n ∷ [])) r)) ≡ true
+                fits = and_from (knows_vector w (vector w risen)) (nat_le (rows.next_number w risen r) (length w.programs * (w.restarts + 1))) (is_same (length (vector w risen)) w.sites (long_now h (Up r n) ask (known, more) notes mid)) few
+
+                comes : IsTold w (noted (h ++ Up r n ∷ [])) k s → Comes w (noted (h ++ Up r n ∷ [])) k s (notes ++ sent w from letter first k clock (noted (h ++ Up r n ∷ [])) ask (Up r n))
+                comes t = record {
+                  comes = ap (λ ls. to_come s.session s.vector (notes ++ ls)) alone ∙ one_more s.session s.vector notes welcome (is_same (session (vector w risen) r) s.session meant);
+                  welcomed = inr (first_behind (site (k + 1)) s.session (last_session (noted h) (site (k + 1))) notes (sent w from letter first k clock risen ask (Up r n)) (let a = up in let b = t.told in let m = before in omega (arith, a, b, m)) mid.past
+                      (subst (WelcomeFirst (site (k + 1)) s.session) (sym alone) (inl (meant, t.told))));
+                }
+                  where
+                    meant : session (vector w (noted (h ++ Up r n ∷ []))) r ≡ s.session
+                    meant = ap (session (vector w risen)) (sym here_is) ∙ t.told
+            go false c =
+                whole h (Up r n) ask (known, more) notes mid (let z = same in let y = last in let x = mid.most in omega (arith, x, y, z)) (let z = last in omega (arith, z))
+                (subst (AllByRecursion Fitting) (sym (new_is false c ∙ left_is)) (its_fit c (others (site (k + 1)))))
+                (λ t. told_one h (Up r n) ask (known, more) notes mid l
+                (new_is false c ∙ left_is ∙ ap its (both (is_up w risen (site (k + 1))) (is_site r (site (k + 1))) (ap (nat_lt 0) t.told ∙ positive s.session some) (turned false r.0 k c)))
+                (is_same (session (vector w risen) (site (k + 1))) s.session t.told) refl (mid.comes (record { up = t.up; told = sym same ∙ t.told })))
+              where
+                same : session (vector w (noted (h ++ Up r n ∷ []))) (site (k + 1)) ≡ session (vector w (noted h)) (site (k + 1))
+                same = session_is ∙ ap (λ b. if b then n else session (vector w (noted h)) (site (k + 1))) c
+
+                last : last_session (noted (h ++ Up r n ∷ [])) (site (k + 1)) ≡ last_session (noted h) (site (k + 1))
+                last = lasts ∙ ap (λ b. if b then n else last_session (noted h) (site (k + 1))) c
+
+      -- each entry
+      pub entries_keep : EntriesKeep w from letter first k clock Mid
+      entries_keep h (Down r) ask placed goes why notes mid = falls h r ask why notes mid
+      entries_keep h (Up r n) ask placed goes why notes mid = rises h r n ask why.0 why.1 notes mid
+      entries_keep h (Read t x r) ask placed goes why notes mid = still h (Read t x r) ask why notes mid refl refl (tt, tt)
+      entries_keep h (Commit t request applied) ask placed goes why notes mid = still h (Commit t request applied) ask why notes mid refl refl (λ r. ((λ there. tt), tt))
+      entries_keep h (Abort t cause act) ask placed goes why notes mid = still h (Abort t cause act) ask why notes mid refl refl (λ r. tt)
+      entries_keep h other ask placed goes why notes mid = still h other ask why notes mid refl refl tt
+
+      -- copies that are sent for
+      mute_copies : (p : List Noted) (due : List Copying) → AllByRecursion (λ (out : Out). out.0 ≡ k + 2 → IsMute out.2) (map (rows.copy_out (vector w p)) due)
+      mute_copies p [] = tt
+      mute_copies p (c ∷ due) = ((λ to. tt), mute_copies p due)
+
+      copies_most : (p : List Noted) (due : List Copying) → session (vector w p) (site (k + 1)) ≤ last_session p (site (k + 1)) → AllByRecursion (λ (out : Out). out.0 ≡ k + 2 → out.1 ≤ last_session p (site (k + 1))) (map (rows.copy_out (vector w p)) due)
+      copies_most p [] most = tt
+      copies_most p (c ∷ due) most = ((λ to. subst (λ z. session (vector w p) z ≤ last_session p (site (k + 1))) (sym (place_is c.source k to)) most), copies_most p due most)
+
+      pub copies_keep : CopiesKeep w from letter first k clock Mid
+      copies_keep p due notes mid = record {
+        long = mid.long;
+        most = mid.most;
+        past = all_append (λ (l : Letter). l.to ≤ last_session p (site (k + 1))) notes new mid.past (all_sent (λ (l : Letter). l.to ≤ last_session p (site (k + 1))) (k + 2) 0 clock outs (copies_most p due mid.most));
+        fits = all_append Fitting notes new mid.fits (all_weaken (λ (l : Letter). IsMute l.message) Fitting new mute_fits mute);
+        comes = λ t. kept (mid.comes t);
+      }
+        where
+          outs : List Out
+          outs = map (rows.copy_out (vector w p)) due
+
+          new : List Letter
+          new = letters_to (k + 2) 0 clock outs
+
+          mute : AreMute (letters_to (k + 2) 0 clock (map (rows.copy_out (vector w p)) due))
+          mute = all_sent (λ (l : Letter). IsMute l.message) (k + 2) 0 clock outs (mute_copies p due)
+
+          kept : Comes w p k s notes → Comes w p k s (notes ++ copied w from letter first k clock p due)
+          kept c = record {
+            comes = comes_on s.session s.vector notes new ∙ mute_comes s.session (to_come s.session s.vector notes) new mute ∙ c.comes;
+            welcomed = elim c.welcomed [ inl a ↦ inl a | inr a ↦ inr (first_on (site (k + 1)) s.session notes new a) ];
+          }
