@@ -115,7 +115,7 @@ module _ (w : Workload) (k : ℕ) (s : SiteState) (from : ℕ) (letter : Letter)
     step_is ascend still_up = go (site_moves w s from letter ascend)
       where
         go : Reached w s from letter (rows.hear_site w s from letter) → (rows.hear_site w s from letter).state.vector ≡ heard
-        go (after, (row, moves)) = (let l = moves_leave w s from letter moves in l.vector ∙ row_is row (sym l.up ∙ still_up))
+        go (after, (row, chain)) = (let l = moves_leave w s from letter chain in l.vector ∙ row_is row (sym l.up ∙ still_up))
 
 module _ (w : Workload) (world : World) (known : Known w world) (from clock : ℕ) (letter : Letter) (rest : List Letter) (k : ℕ) (s : SiteState) (at : slice_get world.servers.sites k ≡ Some s) (front : link world.links (k + 2) from ≡ letter ∷ rest) where
   abbrev p : List Noted
@@ -153,7 +153,7 @@ module _ (w : Workload) (world : World) (known : Known w world) (from clock : �
   Fit ls = AllByRecursion (Fitting w k) ls
 
   -- what is left of the notes
-  left_fit : Fit (link world.links (k + 2) 1) → Fit (if from == 1 then rest else link world.links (k + 2) 1)
+  pub left_fit : Fit (link world.links (k + 2) 1) → Fit (if from == 1 then rest else link world.links (k + 2) 1)
   left_fit fit = go (from == 1) refl
     where
       go : (b : Bool) → (from == 1) ≡ b → Fit (if b then rest else link world.links (k + 2) 1)
@@ -218,7 +218,7 @@ module _ (w : Workload) (world : World) (known : Known w world) (from clock : �
         ]
 
     -- the site's step
-    comes_after : (IsTold w p k s → Comes w p k s (link world.links (k + 2) 1)) → IsTold w p k (rows.hear_site w s from letter).state → Comes w p k (rows.hear_site w s from letter).state (if from == 1 then rest else link world.links (k + 2) 1)
+    pub comes_after : (IsTold w p k s → Comes w p k s (link world.links (k + 2) 1)) → IsTold w p k (rows.hear_site w s from letter).state → Comes w p k (rows.hear_site w s from letter).state (if from == 1 then rest else link world.links (k + 2) 1)
     comes_after old told = go (site_step w s from letter)
       where
         go : SiteStep s from letter (rows.hear_site w s from letter) → Comes w p k (rows.hear_site w s from letter).state (if from == 1 then rest else link world.links (k + 2) 1)
