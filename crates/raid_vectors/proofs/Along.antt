@@ -1,22 +1,28 @@
 -- Along the sequencer's step: what each entry keeps with the letters that it sends to a site holds
 -- after the step. And what of these letters is the site's, where one message goes to some of the sites.
-use Rattle.std.proofs.Common.{◌≡◌, ℕ, zero, suc, ◌+◌, ◌<◌, ◌≤◌, ◌==◌, Bool, true, false, List, [], ◌∷◌, ◌++◌, map, filter, if◌then◌else◌, arith, sym, subst, ap, ◌∙◌, refl, append-nil, append_assoc}
-use Rattle.std.specs.List.{AllByRecursion}
+use Rattle.std.proofs.Common.{◌≡◌, ℕ, zero, suc, ◌+◌, ◌<◌, ◌≤◌, ◌==◌, Bool, true, false, List, [], ◌∷◌, ◌++◌, map, filter, nat_lt, Option, Some, None, if◌then◌else◌, arith, sym, subst, ap, ◌∙◌, refl, append-nil, append_assoc}
+use Rattle.std.specs.Prelude.{flat_map}
+use Rattle.std.specs.Option.{option_map_or}
 use Rattle.raid_base.specs.declared.names.Site.{Site}
 use Rattle.raid_base.specs.declared.entry.Entry.{Entry}
+use Rattle.raid_base.specs.declared.entry.Entry.TheVariants.{Commit, Abort, SwitchOn, SwitchEnd}
 use Rattle.raid_base.specs.declared.entry.Noted.{Noted}
 use Rattle.raid_base.specs.Sites.{site}
 use Rattle.raid_workload.specs.declared.workload.Workload.{Workload}
-use Rattle.raid_workload.specs.Parts.{count_from}
-use Rattle.raid_rules.specs.History.{noted}
-use Rattle.raid_legal.specs.Seen.{vector}
+use Rattle.raid_workload.specs.Parts.{count_from, sites}
+use Rattle.raid_rules.specs.History.{noted, ends}
+use Rattle.raid_legal.specs.Seen.{vector, is_up}
+use Rattle.raid_legal.specs.Forced.{forced}
+use Rattle.raid_legal.proofs.Left.{Compels, forced_compels}
 use Rattle.raid_message.specs.declared.letter.Message.{Message}
 use Rattle.raid_message.specs.declared.letter.Message.TheVariants as letters
 use Rattle.raid_message.specs.declared.letter.Letter.{Letter}
 use Rattle.raid_steps.specs.State.{Out, Turn, Sequencer, Copying, to_site}
 use Rattle.raid_steps.specs.Sequencer as rows
-use Rattle.raid_steps.specs.Sequencer.{so_far, place}
+use Rattle.raid_steps.specs.Sequencer.{so_far, place, settle_from, settle, finish}
 use Rattle.raid_placed.specs.Placed.{Placed, Placeable}
+use Rattle.raid_placed.proofs.Sent.{forced_placeable}
+use Rattle.raid_placed.proofs.Settled.{place_placed}
 use Rattle.raid_sessions.proofs.Mail.{letter_of, letters_to}
 use Rattle.raid_asks.proofs.Notes.{letters_append}
 use Rattle.raid_versions.proofs.Steps.{Why, Steps, done, placed, renews, counts, passes}
@@ -123,3 +129,44 @@ module _ (w : Workload) (from : ℕ) (letter : Letter) (first : List Noted) (k c
       steps_keep a b (passes {next = next} same outs rest) j =
           steps_keep next b rest
           (subst (λ h. J (noted h) (notes ++ letters_to (k + 2) 0 clock next.outs)) (sym same) (subst (λ os. J (so_far a) (notes ++ letters_to (k + 2) 0 clock os)) (sym outs) j))
+
+      -- the forced entries, and what follows them
+      compelled_why : (p : List Noted) (e : Entry) → Compels w p e → Why w from letter first p e
+      compelled_why p (Abort t cause act) c = tt
+      compelled_why p (Commit t request applied) c = tt
+      compelled_why p (SwitchOn i kind method) c = tt
+      compelled_why p (SwitchEnd i) c = tt
+      compelled_why p other c = absurd c
+
+      settle_steps : (i : ℕ) (turn : Turn Sequencer) → Placed w turn.state.history → Steps w from letter first turn (settle_from w i turn)
+      settle_steps zero turn p = done
+      settle_steps (suc i) turn p = go (forced w (so_far turn)) refl (λ e. settle_steps i (place w 0 turn e))
+        where
+          go : (o : Option Entry) → forced w (so_far turn) ≡ o → ((e : Entry) → Placed w (place w 0 turn e).state.history → Steps w from letter first (place w 0 turn e) (settle_from w i (place w 0 turn e))) → Steps w from letter first turn (option_map_or (λ e. settle_from w i (place w 0 turn e)) o turn)
+          go None q rest = done
+          go (Some e) q rest =
+              let goes : Placeable w (so_far turn) e = forced_placeable w (so_far turn) e q in
+              placed 0 e p goes (compelled_why (so_far turn) e (forced_compels w (so_far turn) e q)) (rest e (place_placed w 0 turn e p goes))
+
+      pub finish_keep : (state : Sequencer) (turn : Turn Sequencer) → Placed w turn.state.history → J (so_far turn) (notes ++ letters_to (k + 2) 0 clock turn.outs) →
+          J (so_far (finish w state turn)) (notes ++ letters_to (k + 2) 0 clock (finish w state turn).outs)
+      finish_keep state turn p j = counted (nat_lt (ends (noted state.history)) (ends (so_far settled)))
+        where
+          settled : Turn Sequencer
+          settled = settle w turn
+
+          due : List Copying
+          due = flat_map (rows.copies_due w (so_far (settle w turn)) (settle w turn).state.copying) (filter (is_up w (so_far (settle w turn))) (sites w))
+
+          sent_for : List Out
+          sent_for = map (rows.copy_out (vector w (so_far (settle w turn)))) (flat_map (rows.copies_due w (so_far (settle w turn)) (settle w turn).state.copying) (filter (is_up w (so_far (settle w turn))) (sites w)))
+
+          after_settling : J (so_far (settle w turn)) (notes ++ letters_to (k + 2) 0 clock (settle w turn).outs)
+          after_settling = steps_keep turn (settle w turn) (settle_steps _ turn p) j
+
+          after_copies : J (so_far (settle w turn)) (notes ++ letters_to (k + 2) 0 clock ((settle w turn).outs ++ map (rows.copy_out (vector w (so_far (settle w turn)))) (flat_map (rows.copies_due w (so_far (settle w turn)) (settle w turn).state.copying) (filter (is_up w (so_far (settle w turn))) (sites w)))))
+          after_copies = subst (J (so_far settled)) (sym (more settled.outs sent_for)) (copies (so_far settled) due (notes ++ letters_to (k + 2) 0 clock settled.outs) after_settling)
+
+          counted : (b : Bool) → J (so_far (settle w turn)) (notes ++ letters_to (k + 2) 0 clock (((settle w turn).outs ++ map (rows.copy_out (vector w (so_far (settle w turn)))) (flat_map (rows.copies_due w (so_far (settle w turn)) (settle w turn).state.copying) (filter (is_up w (so_far (settle w turn))) (sites w)))) ++ (if b then (0, 0, letters.Ends (ends (so_far (settle w turn)))) ∷ [] else [])))
+          counted true = subst (J (so_far settled)) (sym (more (settled.outs ++ sent_for) ((0, 0, letters.Ends (ends (so_far settled))) ∷ []) ∙ no_count (ends (so_far settled)) (notes ++ letters_to (k + 2) 0 clock (settled.outs ++ sent_for)))) after_copies
+          counted false = subst (λ os. J (so_far settled) (notes ++ letters_to (k + 2) 0 clock os)) (sym (append-nil (settled.outs ++ sent_for))) after_copies
