@@ -1,0 +1,4 @@
+pub mod Histories
+pub mod Runs
+pub mod Sites
+pub mod Worlds
