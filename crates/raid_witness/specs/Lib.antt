@@ -1,1 +1,2 @@
 pub mod AtHome
+pub mod Fit
