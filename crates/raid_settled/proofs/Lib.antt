@@ -1,0 +1,6 @@
+pub mod Entries
+pub mod Finish
+pub mod Idle
+pub mod Links
+pub mod Renewed
+pub mod Sequencer

@@ -1,0 +1,20 @@
+//! That no copy which could be renewed is forgotten, where copies are cared for.
+//!
+//! `specs/Settled` says what that is: each copy that is under way has a letter on its way, or has lost its source or its target; and each copy that
+//! could be sent for is under way. The function does nothing: it is a law, and its contract says it.
+#![tactic(auto)]
+
+ghost use Rattle.std.specs.Prelude.{◌≡◌, true, List};
+ghost use Rattle.std.specs.List.{list_all};
+ghost use Rattle.raid_workload.specs.declared.workload.Workload.{Workload};
+ghost use Rattle.raid_workload.specs.Parts.{sites, items};
+ghost use Rattle.raid_rules.specs.History.{noted};
+ghost use Rattle.raid_legal.specs.Switched.{is_settled};
+ghost use Rattle.raid_message.specs.declared.letter.Pick.{Pick};
+ghost use Rattle.raid_steps.specs.World.{run, is_idle};
+ghost use Rattle.raid_settled.specs.Settled.{CopiesAreCaredFor};
+
+/// Where no letter is left on any link and copies are cared for, no copy at an up site could be renewed.
+pub fn idle_copies_are_settled_where_cared_for()
+    ensures { (w : Workload) (schedule : List Pick) → is_idle (run w schedule) ≡ true → CopiesAreCaredFor w (run w schedule) → list_all (λ s. list_all (is_settled w (noted (run w schedule).servers.sequencer.history) s) (items w)) (sites w) ≡ true }
+{}
