@@ -21,7 +21,8 @@ use Rattle.raid_sessions.specs.Present.{told_session, own_session}
 use Rattle.raid_sessions.proofs.Agreed.{run_idle}
 use Rattle.raid_sessions.proofs.Lists.{get_known, within}
 use Rattle.raid_sessions.proofs.Reached.{reached}
-use Rattle.raid_settled.specs.Settled.{asks_copy, brings_copy, tells_copy, HasEnded, HasLetter, asked, brought, told, source_ended, target_ended, UnderWay, is_cared_for, CopiesAreCaredFor}
+use Rattle.raid_witness.specs.Ended.{HasEnded}
+use Rattle.raid_settled.specs.Settled.{asks_copy, brings_copy, tells_copy, HasLetter, asked, brought, told, source_ended, target_ended, UnderWay, is_cared_for, CopiesAreCaredFor}
 
 -- an empty link, at each place
 idle_at : {X : Type 0} (p : X → Bool) (xs : List X) (k : ℕ) (d : X) → list_all p xs ≡ true → p d ≡ true → p (slice_index_or xs k d) ≡ true

@@ -18,6 +18,7 @@ use Rattle.raid_message.specs.declared.letter.Letter.{Letter}
 use Rattle.raid_steps.specs.State.{Copying, SiteState}
 use Rattle.raid_steps.specs.Fits.{knows_site, knows_item}
 use Rattle.raid_steps.specs.World.{World, link}
+use Rattle.raid_witness.specs.Ended.{HasEnded}
 
 -- the message asks for a copy of the item, for the target in a session of it
 abbrev pub asks_for : Item → Site → ℕ → Message → Bool
@@ -45,10 +46,6 @@ brings_copy n c l = (l.to == n) && brings c.item l.message
 -- the target tells in its session that the copy was renewed
 abbrev pub tells_copy : ℕ → Copying → Letter → Bool
 tells_copy n c l = (l.from == n) && tells c.item l.message
-
--- the site's session has ended: it has stopped, or come up in a later one
-abbrev pub HasEnded : List SiteState → Site → ℕ → Type 0
-HasEnded sites s n = (own : SiteState) → slice_get sites (s.0 - 1) ≡ Some own → own.up ≡ true → n < own.session
 
 -- The copy has a letter on its way, its source being in session m and its target in session n; or one
 -- of these has ended

@@ -1,2 +1,3 @@
 pub mod AtHome
+pub mod Ended
 pub mod Fit
