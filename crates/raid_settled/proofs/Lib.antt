@@ -4,3 +4,4 @@ pub mod Idle
 pub mod Links
 pub mod Renewed
 pub mod Sequencer
+pub mod Sites
