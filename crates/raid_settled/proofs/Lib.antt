@@ -4,4 +4,5 @@ pub mod Idle
 pub mod Links
 pub mod Renewed
 pub mod Sequencer
+pub mod SiteWorlds
 pub mod Sites
