@@ -34,7 +34,7 @@ no_letter : (test : Letter → Bool) (queue : List Letter) → (length queue == 
 no_letter test [] none h = true≢false (sym h)
 no_letter test (l ∷ ls) none h = (let e = eqb-true (length (l ∷ ls)) 0 none in omega (arith, e))
 
-all_on : {X : Type 0} (p q : X → Bool) (xs : List X) → ((x : X) → p x ≡ true → q x ≡ true) → list_all p xs ≡ true → list_all q xs ≡ true
+pub all_on : {X : Type 0} (p q : X → Bool) (xs : List X) → ((x : X) → p x ≡ true → q x ≡ true) → list_all p xs ≡ true → list_all q xs ≡ true
 all_on p q [] each all = refl
 all_on p q (x ∷ xs) each all = (let both = and_parts (p x) (list_all p xs) all in and_from (q x) (list_all q xs) (each x both.0) (all_on p q xs each both.1))
 

@@ -1,3 +1,4 @@
+pub mod Cared
 pub mod Entries
 pub mod Finish
 pub mod Idle

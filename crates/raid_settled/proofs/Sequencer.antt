@@ -186,7 +186,7 @@ module _ (w : Workload) where
       fallen_ways turn s n known all = when_ways (rows.announce turn s n) (is_up w (so_far turn) s && session (vector w (so_far turn)) s == n) (Down s) (λ c asked. known) all
 
     -- a renewed copy is off its way
-    copied_ways : (turn : Turn Sequencer) (s : Site) (x : Item) (v : ℕ) → Ways (λ c. (is_site s c.target && is_item x c.item) ≡ false) turn → Ways (λ c. ⊤) (rows.copied_row w turn s x v)
+    pub copied_ways : (turn : Turn Sequencer) (s : Site) (x : Item) (v : ℕ) → Ways (λ c. (is_site s c.target && is_item x c.item) ≡ false) turn → Ways (λ c. ⊤) (rows.copied_row w turn s x v)
     copied_ways turn s x v all =
         all_kept (λ (c : Copying). (is_site s c.target && is_item x c.item) ≡ false → Way renewed c) (λ (c : Copying). ⊤ → Way renewed c) (λ c. not (is_site s c.target && is_item x c.item)) renewed.state.copying
         (λ c old off asked. old (not_false (is_site s c.target && is_item x c.item) off))
