@@ -54,6 +54,11 @@ IsCalm (Up s n) = ⊥
 IsCalm (Clear s x v) = ⊥
 IsCalm other = ⊤
 
+-- the message tells of no renewed copy
+abbrev pub IsOther : Message → Type 0
+IsOther (letters.CopyDone x v) = ⊥
+IsOther other = ⊤
+
 module _ (w : Workload) where
   calm_lets : (p : List Noted) (c : Copying) (e : Entry) → IsCalm e → Lets w p c e
   calm_lets p c (Down s) calm = absurd calm
@@ -164,11 +169,6 @@ module _ (w : Workload) where
           again : (b : Bool) → Ways (if b then place w 0 (settle w (place w 0 (rows.leave w turn s) (Up s n))) (Down s) else place w 0 (rows.leave w turn s) (Up s n))
           again true = down_ways (settle w (place w 0 (rows.leave w turn s) (Up s n))) s known (settle_ways (place w 0 (rows.leave w turn s) (Up s n)) up_ways)
           again false = up_ways
-
-      -- the message tells of no renewed copy
-      abbrev pub IsOther : Message → Type 0
-      IsOther (letters.CopyDone x v) = ⊥
-      IsOther other = ⊤
 
       pub row_ways : (turn : Turn Sequencer) (s : Site) (n : ℕ) (m : Message) → IsOther m → Fine w turn → knows_site w s ≡ true → Ways turn → Ways (rows.site_row w turn s n m)
       row_ways turn s n letters.Hello other fine known all = hello_ways turn s n fine known all
