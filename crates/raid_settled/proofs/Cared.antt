@@ -1,5 +1,5 @@
 -- Once the copies that are due are sent for, each copy is cared for.
-use Rattle.std.proofs.Common.{◌≡◌, ℕ, zero, suc, ◌==◌, Bool, true, false, not, ◌&&◌, ◌||◌, List, [], ◌∷◌, ◌++◌, length, filter, Option, Some, None, if◌then◌else◌, sym, subst, ap, ◌∙◌, refl}
+use Rattle.std.proofs.Common.{◌≡◌, ◌==◌, Bool, true, false, not, ◌&&◌, ◌||◌, List, [], ◌∷◌, ◌++◌, length, filter, Option, Some, None, if◌then◌else◌, sym, subst, ap, ◌∙◌, refl}
 use Rattle.std.specs.Prelude.{flat_map, filter_map, slice_get, option_map}
 use Rattle.std.specs.List.{list_any, list_all, cons_option}
 use Rattle.std.proofs.lemmas.Bool.{and_from, true≢false}
@@ -10,7 +10,6 @@ use Rattle.raid_base.specs.Names.{is_item, is_site}
 use Rattle.raid_workload.specs.declared.workload.Workload.{Workload}
 use Rattle.raid_workload.specs.Parts.{sites, items}
 use Rattle.raid_legal.specs.Seen.{is_up, is_locked, sources}
-use Rattle.raid_legal.specs.Switched.{is_settled}
 use Rattle.raid_sessions.proofs.Lists.{same_self}
 use Rattle.raid_steps.specs.State.{Copying}
 use Rattle.raid_steps.specs.Sequencer as rows

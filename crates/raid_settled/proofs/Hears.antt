@@ -1,7 +1,7 @@
 -- The sequencer's step, whole: it keeps copies cared for.
-use Rattle.std.proofs.Common.{◌≡◌, ◌⊎◌, inl, inr, ℕ, zero, suc, ◌+◌, ◌-◌, ◌<◌, ◌≤◌, ◌==◌, nat_lt, Bool, true, false, ◌&&◌, ◌||◌, List, [], ◌∷◌, ◌++◌, fold, if◌then◌else◌, arith, sym, subst, ap, ◌∙◌, refl}
+use Rattle.std.proofs.Common.{◌≡◌, ◌⊎◌, inl, inr, ℕ, zero, suc, ◌+◌, ◌≤◌, ◌==◌, nat_lt, Bool, true, false, ◌&&◌, ◌||◌, List, [], ◌∷◌, ◌++◌, fold, if◌then◌else◌, arith, sym, subst, ap, ◌∙◌, refl}
 use Rattle.std.specs.Prelude.{⊤}
-use Rattle.std.specs.List.{AllByRecursion, list_any, list_all}
+use Rattle.std.specs.List.{AllByRecursion}
 use Rattle.std.proofs.lemmas.Bool.{and_parts, and_from, eqb-true, true≢false}
 use Rattle.raid_base.specs.declared.names.Item.{Item}
 use Rattle.raid_base.specs.declared.names.Site.{Site}
@@ -14,31 +14,29 @@ use Rattle.raid_legal.specs.Seen.{vector}
 use Rattle.raid_message.specs.declared.letter.Message.{Message}
 use Rattle.raid_message.specs.declared.letter.Message.TheVariants as letters
 use Rattle.raid_message.specs.declared.letter.Letter.{Letter}
+use Rattle.raid_copier.proofs.Renewed.{turned}
 use Rattle.raid_placed.proofs.Heard.{Fine}
 use Rattle.raid_sessions.proofs.Lists.{all_weaken, is_same, same_self, within}
 use Rattle.raid_sessions.proofs.Mail.{AreSquare, set_square}
 use Rattle.raid_sessions.proofs.Reached.{from_below}
-use Rattle.raid_steps.specs.State.{Out, Turn, Sequencer, Copying, SiteState, opened}
-use Rattle.raid_steps.specs.Fits.{knows_site, knows_item, is_to_sequencer}
+use Rattle.raid_steps.specs.State.{Out, Turn, Sequencer, Copying, opened}
+use Rattle.raid_steps.specs.Fits.{knows_site, is_to_sequencer}
 use Rattle.raid_steps.specs.Sequencer as rows
 use Rattle.raid_steps.specs.Sequencer.{so_far, settle, finish, is_hello, hear_sequencer}
 use Rattle.raid_steps.specs.World.{World, link, set_link, post}
 use Rattle.raid_steps.proofs.Parts.{number_known}
 use Rattle.raid_versions.proofs.Owed.{Known}
-use Rattle.raid_settled.specs.Settled.{tells, tells_copy, are_cared_for, HasLetter, Stands, UnderWay, CopiesAreCaredFor}
+use Rattle.raid_settled.specs.Settled.{tells, tells_copy, are_cared_for, Stands, UnderWay, CopiesAreCaredFor}
 use Rattle.raid_settled.proofs.Cared.{sent_cared}
 use Rattle.raid_settled.proofs.Finish.{send_ways}
 use Rattle.raid_settled.proofs.Links.{or_right, letter_grows, letter_left, IsIts, was_asked, was_brought, was_told}
-use Rattle.raid_settled.proofs.Sequencer.{Now, Way, Ways, more_grow, settle_ways, row_ways, fallen_ways, copied_ways, IsOther}
+use Rattle.raid_settled.proofs.Sequencer.{Now, Ways, more_grow, settle_ways, row_ways, fallen_ways, copied_ways, IsOther}
 use Rattle.raid_settled.proofs.Sites.{tells_is}
 
 -- a message tells of a renewed copy or not
 other_or : (m : Message) → IsOther m ⊎ ((x : Item) × ((v : ℕ) × (m ≡ letters.CopyDone x v)))
 other_or (letters.CopyDone x v) = inr (x, (v, refl))
 other_or other = inl tt
-
-turned : (a b : ℕ) → (b == a) ≡ true → (a == b) ≡ true
-turned a b q = grind (arith, q)
 
 module _ (w : Workload) (state : World) (known : Known w state) (care : CopiesAreCaredFor w state) (from clock : ℕ) (letter : Letter) (rest : List Letter) (front : link state.links 1 from ≡ letter ∷ rest) where
   abbrev before : Sequencer
@@ -144,7 +142,7 @@ module _ (w : Workload) (state : World) (known : Known w state) (care : CopiesAr
         (copied_ways w state.servers.sites taken clock (opened before) (site (k + 1)) x v (stay (λ c. (is_site (site (k + 1)) c.target && is_item x c.item) ≡ false) off))
       where
         off : (c : Copying) → Stands w p c → (is_site (site (k + 1)) c.target && is_item x c.item) ≡ false → Tells c → ⊥
-        off c stands apart told = true≢false (sym (and_from (is_site (site (k + 1)) c.target) (is_item x c.item) mine (turned c.item.0 x.0 (subst (λ m. tells c.item m ≡ true) is (told_parts c told).1))) ∙ apart)
+        off c stands apart told = true≢false (sym (and_from (is_site (site (k + 1)) c.target) (is_item x c.item) mine (turned x.0 c.item.0 true (subst (λ m. tells c.item m ≡ true) is (told_parts c told).1))) ∙ apart)
           where
             mine : is_site (site (k + 1)) c.target ≡ true
             mine = subst (λ z. is_site z c.target ≡ true) (sym (target_is c told)) (same_self c.target.0)

@@ -1,9 +1,8 @@
 -- The sequencer's step, up to the copies that are due, keeps what is under way.
-use Rattle.std.proofs.Common.{◌≡◌, ℕ, zero, suc, ◌+◌, ◌==◌, nat_le, Bool, true, false, not, ◌&&◌, List, [], ◌∷◌, ◌++◌, length, filter, fold, Option, Some, None, if◌then◌else◌, sym, subst, ap, ◌∙◌, refl}
+use Rattle.std.proofs.Common.{◌≡◌, ℕ, zero, suc, ◌==◌, nat_le, Bool, true, false, not, ◌&&◌, List, ◌++◌, fold, Option, Some, None, if◌then◌else◌, sym, subst, refl}
 use Rattle.std.specs.Prelude.{⊤}
 use Rattle.std.specs.List.{AllByRecursion}
 use Rattle.std.specs.Option.{option_map_or}
-use Rattle.std.proofs.lemmas.Bool.{true≢false}
 use Rattle.std.proofs.lemmas.List.Sums.{fold-append}
 use Rattle.raid_base.specs.declared.names.Txn.{Txn}
 use Rattle.raid_base.specs.declared.names.Item.{Item}
@@ -18,10 +17,10 @@ use Rattle.raid_base.specs.declared.entry.Noted.{Noted}
 use Rattle.raid_base.specs.declared.verdict.Verdict.{Verdict}
 use Rattle.raid_base.specs.declared.verdict.Verdict.TheVariants as verdicts
 use Rattle.raid_base.specs.Names.{is_item, is_site}
-use Rattle.raid_base.specs.Sites.{session, site}
+use Rattle.raid_base.specs.Sites.{session}
 use Rattle.raid_workload.specs.declared.workload.Workload.{Workload}
 use Rattle.raid_workload.specs.Parts.{home}
-use Rattle.raid_rules.specs.History.{noted, add, stamp, is_waiting, version}
+use Rattle.raid_rules.specs.History.{stamp, is_waiting, version}
 use Rattle.raid_rules.specs.Sessions.{source_for, owes}
 use Rattle.raid_rules.specs.Verdicts.{reading, writing}
 use Rattle.raid_rules.proofs.Push.{noted_push}

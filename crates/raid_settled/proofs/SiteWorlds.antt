@@ -1,9 +1,8 @@
 -- A site's step keeps each copy under way: the letter that it takes is answered, or was meant for a session that is over.
-use Rattle.std.proofs.Common.{◌≡◌, ◌≢◌, ◌⊎◌, inl, inr, ℕ, ℤ, zero, suc, ◌+◌, ◌-◌, ◌<◌, ◌≤◌, ◌==◌, nat_le, Bool, true, false, ◌&&◌, List, [], ◌∷◌, Some, arith, sym, subst, ap, ◌∙◌, refl}
+use Rattle.std.proofs.Common.{◌≡◌, ◌≢◌, ◌⊎◌, inl, inr, ℕ, ℤ, suc, ◌+◌, ◌-◌, ◌<◌, ◌≤◌, ◌==◌, nat_le, Bool, true, false, ◌&&◌, List, ◌∷◌, Some, arith, sym, subst, ap, ◌∙◌, refl}
 use Rattle.std.specs.Prelude.{slice_get, slice_set}
-use Rattle.std.specs.List.{AllByRecursion, list_any}
+use Rattle.std.specs.List.{list_any}
 use Rattle.std.proofs.lemmas.Bool.{and_parts, and_from, eqb-true, true≢false}
-use Rattle.raid_base.specs.declared.names.Item.{Item}
 use Rattle.raid_base.specs.declared.names.Site.{Site}
 use Rattle.raid_base.specs.declared.entry.Noted.{Noted}
 use Rattle.raid_base.specs.Sites.{session, site}
@@ -11,15 +10,13 @@ use Rattle.raid_workload.specs.declared.workload.Workload.{Workload}
 use Rattle.raid_rules.specs.History.{noted, version}
 use Rattle.raid_rules.specs.Sessions.{last_session, is_copy_locked}
 use Rattle.raid_legal.specs.Seen.{vector}
-use Rattle.raid_message.specs.declared.letter.Message.{Message}
 use Rattle.raid_message.specs.declared.letter.Message.TheVariants as letters
 use Rattle.raid_message.specs.declared.letter.Letter.{Letter}
 use Rattle.raid_steps.specs.State.{Out, Turn, Copy, Copying, SiteState}
-use Rattle.raid_steps.specs.Fits.{knows_site, knows_item}
+use Rattle.raid_steps.specs.Fits.{knows_site}
 use Rattle.raid_steps.specs.Copies.{copy_of, holds_copy}
 use Rattle.raid_steps.specs.Site.{hear_site}
 use Rattle.raid_steps.specs.World.{World, link, set_link}
-use Rattle.raid_steps.proofs.Parts.{number_known}
 use Rattle.raid_sessions.proofs.Agreed.{told_follows}
 use Rattle.raid_sessions.proofs.Ledger.{session_most}
 use Rattle.raid_sessions.proofs.Lists.{get_below, get_set, get_other, is_same, same_self, some_is, within}
@@ -29,13 +26,14 @@ use Rattle.raid_sessions.proofs.Site as steps
 use Rattle.raid_letters.specs.Says.{is_held, NoteSays, CopyDoSays}
 use Rattle.raid_letters.proofs.Runs.{LetterSays, QueueSays}
 use Rattle.raid_versions.specs.Versions.{HaveLastVersions}
+use Rattle.raid_versions.proofs.Copied.{held_copied}
 use Rattle.raid_versions.proofs.Owed.{Known}
 use Rattle.raid_versions.proofs.Written.{version_within}
 use Rattle.raid_told.specs.Copiers.{IsCurrent, Speaks, QueueTells, CopiersTell}
 use Rattle.raid_witness.specs.Ended.{HasEnded}
-use Rattle.raid_settled.specs.Settled.{asks_for, brings, tells, asks_copy, brings_copy, tells_copy, HasLetter, asked, brought, told, source_ended, target_ended, Stands, UnderWay}
+use Rattle.raid_settled.specs.Settled.{asks_for, brings, asks_copy, brings_copy, tells_copy, HasLetter, asked, brought, told, source_ended, target_ended, Stands, UnderWay}
 use Rattle.raid_settled.proofs.Links.{posts_grow, letter_grows, letter_left, sent_there, IsIts, was_asked, was_brought, was_told}
-use Rattle.raid_settled.proofs.Sites.{asks_is, brings_is, found_copy, sends_copy, tells_renewed}
+use Rattle.raid_settled.proofs.Sites.{asks_is, brings_is, sends_copy, tells_renewed}
 
 least : (a b : ℕ) → a ≤ b → nat_le a b ≡ true
 least a b below = grind (arith, below)
@@ -153,7 +151,7 @@ module _ (w : Workload) (state : World) (known : Known w state) (last : HaveLast
         test out = (out.0 == c.target.0 + 1) && brings_copy (now c.target) c (letter_of turn.state.session clock out)
 
         found : (d : Copy) × (copy_of own c.item ≡ Some d)
-        found = found_copy own c.item held
+        found = held_copied own c.item held
 
         passes : test (c.target.0 + 1, now c.target, letters.CopyValue c.item found.0.value found.0.version) ≡ true
         passes = and_from (c.target.0 + 1 == c.target.0 + 1) _ (same_self (c.target.0 + 1)) (and_from (now c.target == now c.target) _ (same_self (now c.target)) (same_self c.item.0))
@@ -201,7 +199,7 @@ module _ (w : Workload) (state : World) (known : Known w state) (last : HaveLast
         held = known.held j own at c.item ∙ ap (λ z. is_held w z c.item) same ∙ has.0
 
         found : (d : Copy) × (copy_of own c.item ≡ Some d)
-        found = found_copy own c.item held
+        found = held_copied own c.item held
 
         current : IsCurrent w p c.target letter.to c.item v
         current =
@@ -214,6 +212,7 @@ module _ (w : Workload) (state : World) (known : Known w state) (last : HaveLast
 
         newer : nat_le found.0.version v ≡ true
         newer = least found.0.version v (let most = version_within state.servers.sequencer.history c.item found.0.version (last.versions j own at c.item found.0 found.1) in let q = version_is in omega (arith, most, q))
+
         test : Out → Bool
         test out = (out.0 == 1) && tells_copy (now c.target) c (letter_of turn.state.session clock out)
 

@@ -1,7 +1,6 @@
 -- A source that is asked for a copy sends it, and a target that gets one tells of it: so a site's step keeps a copy under way.
-use Rattle.std.proofs.Common.{◌≡◌, ◌≢◌, ◌⊎◌, inl, inr, ℕ, ℤ, zero, suc, ◌+◌, ◌-◌, ◌<◌, ◌≤◌, ◌==◌, nat_le, Bool, true, false, ◌&&◌, ◌||◌, List, [], ◌∷◌, find, fold, Option, Some, None, if◌then◌else◌, arith, sym, subst, ap, ◌∙◌, refl}
-use Rattle.std.specs.Prelude.{slice_get, slice_set}
-use Rattle.std.specs.List.{AllByRecursion, list_any}
+use Rattle.std.proofs.Common.{◌≡◌, ℕ, ℤ, suc, ◌+◌, ◌==◌, nat_le, Bool, true, false, ◌&&◌, List, [], ◌∷◌, fold, Option, Some, if◌then◌else◌, sym, subst, ap, ◌∙◌}
+use Rattle.std.specs.List.{list_any}
 use Rattle.std.specs.Option.{option_map_or}
 use Rattle.std.proofs.lemmas.Bool.{and_parts, and_from, eqb-true, true≢false}
 use Rattle.raid_base.specs.declared.names.Item.{Item}
@@ -12,8 +11,6 @@ use Rattle.raid_message.specs.declared.letter.Message.{Message}
 use Rattle.raid_message.specs.declared.letter.Message.TheVariants as letters
 use Rattle.raid_message.specs.declared.letter.Letter.{Letter}
 use Rattle.raid_letters.proofs.Sends.{same_site}
-use Rattle.raid_sessions.proofs.Lists.{same_self}
-use Rattle.raid_sessions.proofs.Mail.{letter_of}
 use Rattle.raid_steps.specs.State.{Out, Turn, opened, tell, with_state, Copy, Phase, asking, preparing, sent, Running, SiteState}
 use Rattle.raid_steps.specs.Fits.{knows_site, knows_item, is_of_sequencer, is_of_site}
 use Rattle.raid_steps.specs.Copies.{copy_of, holds_copy, set_copy}
@@ -21,7 +18,7 @@ use Rattle.raid_steps.specs.Programs.{ask_commit, ask_commits}
 use Rattle.raid_steps.specs.Site as rows
 use Rattle.raid_base.specs.Sites.{site}
 use Rattle.raid_versions.proofs.SiteCopies.{same_item}
-use Rattle.raid_settled.specs.Settled.{asks_for, brings, tells, brings_copy, tells_copy}
+use Rattle.raid_settled.specs.Settled.{asks_for, brings, tells}
 use Rattle.raid_settled.proofs.Links.{or_left, any_behind}
 
 -- what the messages are
@@ -54,21 +51,6 @@ one_commit test turn r sent h = h
 commits : (test : Out → Bool) (rs : List Running) (turn : Turn SiteState) → list_any test turn.outs ≡ true → list_any test (fold (λ now r. ask_commit now r r.phase) turn rs).outs ≡ true
 commits test [] turn h = h
 commits test (r ∷ rs) turn h = commits test rs (ask_commit turn r r.phase) (one_commit test turn r r.phase h)
-
--- the copy that is found where there is one
-pub found_copy : (s : SiteState) (x : Item) → holds_copy s x ≡ true → (d : Copy) × (copy_of s x ≡ Some d)
-found_copy s x h = go s.copies h
-  where
-    Found : Option Copy → Type 0
-    Found o = (d : Copy) × (o ≡ Some d)
-
-    go : (cs : List Copy) → list_any (λ (d : Copy). is_item x d.item) cs ≡ true → (d : Copy) × (find (λ (d : Copy). is_item x d.item) cs ≡ Some d)
-    go [] q = absurd (true≢false (sym q))
-    go (d ∷ cs) q = here (is_item x d.item) q (go cs)
-      where
-        here : (b : Bool) → (b || list_any (λ (d : Copy). is_item x d.item) cs) ≡ true → (list_any (λ (d : Copy). is_item x d.item) cs ≡ true → Found (find (λ (d : Copy). is_item x d.item) cs)) → Found (if b then Some d else find (λ (d : Copy). is_item x d.item) cs)
-        here true q rest = (d, refl)
-        here false q rest = rest q
 
 module _ (w : Workload) (s : SiteState) (letter : Letter) (up : s.up ≡ true) (meant : (letter.to == s.session) ≡ true) (x : Item) (known : knows_item w x ≡ true) (d : Copy) (held : holds_copy s x ≡ true) (has : copy_of s x ≡ Some d) where
   -- a source that hears that it is to send a copy
