@@ -1,2 +1,4 @@
+pub mod Expects
 pub mod Heard
+pub mod Home
 pub mod UpNotes
