@@ -65,13 +65,13 @@ module _ (w : Workload) (all : List SiteState) (k : ℕ) (state : SiteState) (fr
   more_out : (outs new : List Out) (a : Site) → with_outs (outs ++ new) a ≡ with_outs outs a ++ letters_to (a.0 + 1) state.session clock new
   more_out outs new a = ap (λ ls. asks a ++ ls) (letters_append (a.0 + 1) state.session clock outs new) ∙ sym (append_assoc (asks a) (letters_to (a.0 + 1) state.session clock outs) (letters_to (a.0 + 1) state.session clock new))
 
-  comes_on : (outs new : List Out) (n : ℕ) (t : Txn) (a : Site) → VoteComes all (with_outs outs a) (votes a) state.session n t a → VoteComes all (with_outs (outs ++ new) a) (votes a) state.session n t a
+  pub comes_on : (outs new : List Out) (n : ℕ) (t : Txn) (a : Site) → VoteComes all (with_outs outs a) (votes a) state.session n t a → VoteComes all (with_outs (outs ++ new) a) (votes a) state.session n t a
   comes_on outs new n t a (asked q) = asked (ap (list_any (asks_vote state.session n t)) (more_out outs new a) ∙ any_on (asks_vote state.session n t) (with_outs outs a) (letters_to (a.0 + 1) state.session clock new) q)
   comes_on outs new n t a (voted q) = voted q
   comes_on outs new n t a (ended q) = ended q
 
   -- a letter that is sent now asks for the vote
-  comes_new : (outs new : List Out) (n : ℕ) (t : Txn) (a : Site) → list_any (asks_vote state.session n t) (letters_to (a.0 + 1) state.session clock new) ≡ true → VoteComes all (with_outs (outs ++ new) a) (votes a) state.session n t a
+  pub comes_new : (outs new : List Out) (n : ℕ) (t : Txn) (a : Site) → list_any (asks_vote state.session n t) (letters_to (a.0 + 1) state.session clock new) ≡ true → VoteComes all (with_outs (outs ++ new) a) (votes a) state.session n t a
   comes_new outs new n t a q = asked (ap (list_any (asks_vote state.session n t)) (more_out outs new a) ∙ any_new (asks_vote state.session n t) (with_outs outs a) (letters_to (a.0 + 1) state.session clock new) q)
 
   waits_on : (turn after : Turn SiteState) (new : List Out) → after.state.vector ≡ turn.state.vector → after.outs ≡ turn.outs ++ new → (t : Txn) (phase : Phase) → Waits turn t phase → Waits after t phase
@@ -81,7 +81,7 @@ module _ (w : Workload) (all : List SiteState) (k : ℕ) (state : SiteState) (fr
       (phase_on w all all k state.session state.session turn.state.vector turn.state.vector (with_outs turn.outs) votes (with_outs (turn.outs ++ new)) votes t
       (λ writes a e. record { known = e.known; other = e.other; holds = e.holds; up = e.up; comes = comes_on turn.outs new (session turn.state.vector a) t a e.comes }) phase h))
 
-  each_on : (turn after : Turn SiteState) (new : List Out) → after.state.vector ≡ turn.state.vector → after.outs ≡ turn.outs ++ new → Each turn → AllByRecursion (λ (r : Running). Waits after r.txn r.phase) turn.state.running
+  pub each_on : (turn after : Turn SiteState) (new : List Out) → after.state.vector ≡ turn.state.vector → after.outs ≡ turn.outs ++ new → Each turn → AllByRecursion (λ (r : Running). Waits after r.txn r.phase) turn.state.running
   each_on turn after new same more each = all_weaken (λ (r : Running). Waits turn r.txn r.phase) (λ (r : Running). Waits after r.txn r.phase) turn.state.running (λ r h. waits_on turn after new same more r.txn r.phase h) each
 
   now_sends : (turn after : Turn SiteState) (new : List Out) → after.state.site ≡ turn.state.site → after.state.vector ≡ turn.state.vector → after.state.running ≡ turn.state.running → after.outs ≡ turn.outs ++ new → Now turn → Now after
@@ -108,7 +108,7 @@ module _ (w : Workload) (all : List SiteState) (k : ℕ) (state : SiteState) (fr
   }
 
   -- a Prepare to each of some sites
-  one_asked : (v : List ℕ) (t : Txn) (writes : List (Item × ℤ)) (z : Site) → list_any (asks_vote state.session (session v z) t) (letters_to (z.0 + 1) state.session clock (prepare_out w v t writes z ∷ [])) ≡ true
+  pub one_asked : (v : List ℕ) (t : Txn) (writes : List (Item × ℤ)) (z : Site) → list_any (asks_vote state.session (session v z) t) (letters_to (z.0 + 1) state.session clock (prepare_out w v t writes z ∷ [])) ≡ true
   one_asked v t writes z = rw (same_self (z.0 + 1), same_self state.session, same_self (session v z), same_self t.0) refl
 
   all_asked : (v : List ℕ) (t : Txn) (writes : List (Item × ℤ)) (ss : List Site) (a : Site) → has_site ss a ≡ true → list_any (asks_vote state.session (session v a) t) (letters_to (a.0 + 1) state.session clock (map (prepare_out w v t writes) ss)) ≡ true
