@@ -1,8 +1,7 @@
 -- A step of a home keeps the votes coming that its programs in preparation await.
-use Rattle.std.proofs.Common.{◌≡◌, ◌⊎◌, inl, inr, ℕ, ℤ, suc, ◌+◌, ◌-◌, ◌<◌, ◌≤◌, ◌==◌, nat_lt, nat_le, Bool, true, false, not, ◌&&◌, ◌||◌, List, [], ◌∷◌, ◌++◌, map, filter, length, Option, Some, None, if◌then◌else◌, arith, sym, subst, ap, ◌∙◌, refl, append-nil, append_assoc}
-use Rattle.std.specs.Prelude.{⊤}
+use Rattle.std.proofs.Common.{◌≡◌, inl, inr, ℕ, ℤ, ◌+◌, ◌≤◌, ◌==◌, nat_lt, Bool, true, false, not, ◌&&◌, ◌||◌, List, [], ◌∷◌, ◌++◌, map, filter, length, Some, if◌then◌else◌, arith, sym, subst, ap, ◌∙◌, refl, append-nil, append_assoc}
 use Rattle.std.specs.List.{AllByRecursion, list_any}
-use Rattle.std.proofs.lemmas.Bool.{and_parts, and_from, eqb-true, true≢false}
+use Rattle.std.proofs.lemmas.Bool.{and_parts, eqb-true, true≢false}
 use Rattle.raid_base.specs.declared.names.Txn.{Txn}
 use Rattle.raid_base.specs.declared.names.Item.{Item}
 use Rattle.raid_base.specs.declared.names.Site.{Site}
@@ -15,16 +14,14 @@ use Rattle.raid_workload.specs.Parts.{sites}
 use Rattle.raid_rules.specs.Sessions.{is_site_up}
 use Rattle.raid_rules.proofs.Sources.{has_kept}
 use Rattle.raid_legal.specs.Seen.{holds_some}
-use Rattle.raid_message.specs.declared.letter.Message.{Message}
 use Rattle.raid_message.specs.declared.letter.Message.TheVariants as letters
 use Rattle.raid_message.specs.declared.letter.Letter.{Letter}
 use Rattle.raid_steps.specs.State.{Out, Turn, opened, send, tell, Phase, asking, preparing, sent, Running, SiteState}
 use Rattle.raid_steps.specs.Copies.{stage}
-use Rattle.raid_steps.specs.Fits.{is_of_sequencer, is_of_site, knows_site}
+use Rattle.raid_steps.specs.Fits.{is_of_sequencer, knows_site}
 use Rattle.raid_steps.specs.Programs as programs
 use Rattle.raid_steps.specs.Programs.{put_running, running_of, prepare_out, voters}
-use Rattle.raid_steps.specs.Site as rows
-use Rattle.raid_steps.specs.Site.{hear_site, fits_here}
+use Rattle.raid_steps.specs.Site.{hear_site}
 use Rattle.raid_steps.proofs.Parts.{sites_known}
 use Rattle.raid_sessions.proofs.Lists.{not_false, same_self}
 use Rattle.raid_sessions.proofs.Mail.{letters_to}
@@ -32,7 +29,7 @@ use Rattle.raid_moves.specs.Moves as parts
 use Rattle.raid_moves.specs.Moves.{Ascend, Tells, comes_to, Goes, fresh, Begins, Row, next_of, passed, Move, Moves}
 use Rattle.raid_moves.proofs.Places.{all_put, all_kept, all_found, all_weaken}
 use Rattle.raid_moves.proofs.Steps.{site_moves}
-use Rattle.raid_asks.proofs.Facts.{or_left, or_right, or_parts}
+use Rattle.raid_asks.proofs.Facts.{or_parts}
 use Rattle.raid_asks.proofs.Notes.{letters_append}
 use Rattle.raid_letters.proofs.Sends.{same_site}
 use Rattle.raid_votes.specs.Votes.{asks_vote, VoteComes, asked, voted, ended}

@@ -1,6 +1,6 @@
 -- A home's step in a world keeps the votes coming that its programs in preparation await.
-use Rattle.std.proofs.Common.{◌≡◌, ◌⊎◌, inl, inr, ℕ, ℤ, zero, suc, ◌+◌, ◌-◌, ◌*◌, ◌≤◌, ◌==◌, nat_le, Bool, true, false, not, ◌&&◌, List, [], ◌∷◌, ◌++◌, length, filter, Some, if◌then◌else◌, arith, sym, subst, ap, ◌∙◌, refl, append-nil}
-use Rattle.std.specs.Prelude.{⊤, slice_get}
+use Rattle.std.proofs.Common.{◌≡◌, ◌⊎◌, inl, inr, ℕ, ℤ, ◌+◌, ◌-◌, ◌==◌, Bool, true, false, not, ◌&&◌, List, [], ◌∷◌, length, filter, Some, if◌then◌else◌, arith, sym, subst, ap, ◌∙◌, refl, append-nil}
+use Rattle.std.specs.Prelude.{slice_get}
 use Rattle.std.specs.List.{AllByRecursion, list_any}
 use Rattle.std.proofs.lemmas.Bool.{and_parts, and_from, eqb-true, true≢false}
 use Rattle.std.proofs.lemmas.Grind.{common_steps}
@@ -8,13 +8,11 @@ use Rattle.raid_base.specs.declared.names.Txn.{Txn}
 use Rattle.raid_base.specs.declared.names.Item.{Item}
 use Rattle.raid_base.specs.declared.names.Site.{Site}
 use Rattle.raid_base.specs.declared.entry.Answer.TheVariants.{Yes}
-use Rattle.raid_base.specs.declared.entry.Noted.{Noted}
 use Rattle.raid_base.specs.Names.{is_txn, is_site, has_txn}
 use Rattle.raid_base.specs.Sites.{session, site}
 use Rattle.raid_workload.specs.declared.workload.Workload.{Workload}
 use Rattle.raid_workload.specs.Parts.{txns}
 use Rattle.raid_rules.specs.History.{noted}
-use Rattle.raid_rules.specs.Sessions.{last_session}
 use Rattle.raid_rules.proofs.Push.{same_txn}
 use Rattle.raid_rules.proofs.Sources.{has_kept}
 use Rattle.raid_message.specs.declared.letter.Message.{Message}
@@ -29,7 +27,6 @@ use Rattle.raid_sessions.proofs.Lists.{is_same, same_self, within}
 use Rattle.raid_sessions.proofs.Site.{SiteStep, site_step}
 use Rattle.raid_sessions.proofs.Site as steps
 use Rattle.raid_moves.specs.Moves.{Tells, Says}
-use Rattle.raid_moves.specs.After.{NoneIsReady}
 use Rattle.raid_moves.proofs.Places.{all_both, all_weaken}
 use Rattle.raid_asks.proofs.Cares.{Stage, stopped, asleep, fresh, awake}
 use Rattle.raid_asks.proofs.Facts.{or_parts}

@@ -1,9 +1,9 @@
 -- In every run, the votes that are awaited come; so where no letter is left none is awaited.
-use Rattle.std.proofs.Common.{◌≡◌, ◌≢◌, ◌⊎◌, inl, inr, ℕ, zero, suc, ◌+◌, ◌-◌, ◌<◌, ◌≤◌, ◌==◌, Bool, true, false, ◌&&◌, ◌||◌, List, [], ◌∷◌, ◌++◌, length, Option, Some, None, if◌then◌else◌, arith, sym, subst, ap, ◌∙◌, refl, append-nil, append_assoc}
-use Rattle.std.specs.Prelude.{⊤, max, slice_get, slice_set, slice_index}
+use Rattle.std.proofs.Common.{◌≡◌, ◌≢◌, ◌⊎◌, inl, inr, ℕ, zero, suc, ◌+◌, ◌-◌, ◌<◌, ◌≤◌, ◌==◌, Bool, true, false, ◌||◌, List, [], ◌∷◌, ◌++◌, length, Option, Some, None, if◌then◌else◌, arith, sym, subst, ap, ◌∙◌, refl, append-nil, append_assoc}
+use Rattle.std.specs.Prelude.{max, slice_get, slice_set, slice_index}
 use Rattle.std.specs.List.{AllByRecursion, list_any}
 use Rattle.std.specs.Option.{option_map_or}
-use Rattle.std.proofs.lemmas.Bool.{true≢false}
+use Rattle.std.proofs.lemmas.Bool.{eqb-true, true≢false}
 use Rattle.std.proofs.lemmas.List.Sums.{fold-append}
 use Rattle.raid_base.specs.declared.names.Txn.{Txn}
 use Rattle.raid_base.specs.declared.names.Site.{Site}
@@ -19,7 +19,7 @@ use Rattle.raid_steps.specs.Fits.{knows_site}
 use Rattle.raid_steps.specs.Monitor.{hear_monitor}
 use Rattle.raid_steps.specs.Sequencer.{hear_sequencer}
 use Rattle.raid_steps.specs.Site.{hear_site}
-use Rattle.raid_steps.specs.World.{World, Servers, hear, hear_at, session_of, link, take_front, pick, run, open_world, is_idle}
+use Rattle.raid_steps.specs.World.{World, hear, hear_at, session_of, link, take_front, pick, run, open_world, is_idle}
 use Rattle.raid_sessions.specs.Present.{own_session}
 use Rattle.raid_sessions.proofs.Agreed.{told_follows, run_idle}
 use Rattle.raid_sessions.proofs.Lists.{get_below, get_known, get_set, get_other, is_same, some_is, within}
@@ -34,14 +34,13 @@ use Rattle.raid_layers.proofs.Runs.{nobody}
 use Rattle.raid_versions.proofs.Owed.{Known}
 use Rattle.raid_versions.proofs.Runs as below
 use Rattle.raid_vectors.specs.Vectors.{IsTold}
-use Rattle.raid_vectors.proofs.Frame.{differs}
 use Rattle.raid_vectors.proofs.Runs.{idle_link, runs_agree}
 use Rattle.raid_witness.specs.Ended.{HasEnded}
 use Rattle.raid_votes.specs.Votes.{asks_vote, votes_yes, VoteComes, asked, voted, ended, Awaits, AwaitsVotes, VotesCome, NoneIsPreparing}
 use Rattle.raid_votes.proofs.Expects.{Expects, ExpectsAll, phase_on}
 use Rattle.raid_votes.proofs.Heard.{kind, none_ready}
 use Rattle.raid_votes.proofs.Home.{with_outs}
-use Rattle.raid_votes.proofs.HomeSteps.{txn_fits, nobody_runs, left, Result, home_step}
+use Rattle.raid_votes.proofs.HomeSteps.{txn_fits, nobody_runs, Result, home_step}
 use Rattle.raid_votes.proofs.UpNotes.{NameSessions, long_vectors, notes_name}
 use Rattle.raid_votes.proofs.Voters.{voter_step}
 
@@ -51,6 +50,13 @@ to_voter links k a = link links (a.0 + 1) (k + 2)
 
 abbrev of_voter : List (List (List Letter)) → ℕ → Site → List Letter
 of_voter links k a = link links (k + 2) (a.0 + 1)
+
+unequal : (a b : ℕ) → a ≢ b → (a == b) ≡ false
+unequal a b other = go (a == b) refl
+  where
+    go : (c : Bool) → (a == b) ≡ c → c ≡ false
+    go true e = absurd (other (eqb-true a b e))
+    go false e = refl
 
 none_any : (test : Running → Bool) (rs : List Running) → AllByRecursion (λ (r : Running). test r ≡ false) rs → list_any test rs ≡ false
 none_any test [] a = refl
@@ -138,10 +144,16 @@ module _ (w : Workload) where
               ∙ ap (λ b. if b then rest else link links (j + 2) c) (sym (is_same from c of))
           go (inr other) =
               moved_other (w.sites + 2) links (j + 2) from turn.state.session clock rest turn.outs besides.known.says.reached.square own_room (j + 2) c own_room differ (inr (λ q. other (sym q)))
-              ∙ ap (λ b. if b then rest else link links (j + 2) c) (sym (differs from c other))
+              ∙ ap (λ b. if b then rest else link links (j + 2) c) (sym (unequal from c other))
 
       others : (c d : ℕ) → c < w.sites + 2 → c ≢ j + 2 → d ≢ j + 2 → link (moved world.links (j + 2) from (hear_site w own from letter).state.session clock rest (hear_site w own from letter).outs) c d ≡ link world.links c d
       others c d few differ far = moved_other (w.sites + 2) links (j + 2) from turn.state.session clock rest turn.outs besides.known.says.reached.square own_room c d few far (inl differ)
+
+      abbrev left_here : Site → List Letter
+      left_here a = if from == a.0 + 1 then rest else link world.links (j + 2) (a.0 + 1)
+
+      abbrev sent_here : Site → List Letter
+      sent_here = with_outs w world.servers.sites j own from clock letter (to_voter world.links j) left_here (hear_site w own from letter).outs
 
       -- the home itself
       at_home : NoneIsReady (hear_site w own from letter).state × AllByRecursion (λ (r : Running). ExpectsHere (slice_set world.servers.sites j (hear_site w own from letter).state) (moved world.links (j + 2) from (hear_site w own from letter).state.session clock rest (hear_site w own from letter).outs) j (hear_site w own from letter).state r.txn r.phase) (hear_site w own from letter).state.running
@@ -150,12 +162,6 @@ module _ (w : Workload) where
         go (home_step w world besides.known from clock letter rest j own at front (besides.long j own at) (besides.names j own at) (all j own at).1),
       )
         where
-          abbrev left_here : Site → List Letter
-          left_here a = if from == a.0 + 1 then rest else link world.links (j + 2) (a.0 + 1)
-
-          abbrev sent_here : Site → List Letter
-          sent_here = with_outs w world.servers.sites j own from clock letter (to_voter world.links j) left_here (hear_site w own from letter).outs
-
           one : (t : Txn) (a : Site) (n : ℕ) → (1 ≤ a.0) × (a.0 ≤ w.sites) → ((a.0 == j + 1) ≡ false) → (hear_site w own from letter).state.session ≡ own.session →
               VoteComes world.servers.sites (link world.links (a.0 + 1) (j + 2) ++ letters_to (a.0 + 1) own.session clock (hear_site w own from letter).outs) (if from == a.0 + 1 then rest else link world.links (j + 2) (a.0 + 1)) own.session n t a →
               VoteComes changed (to_voter after j a) (of_voter after j a) own.session n t a
@@ -295,7 +301,7 @@ module _ (w : Workload) where
       go : (t : Txn) (phase : Phase) → is_ready phase ≡ false → ExpectsHere (run w schedule).servers.sites (run w schedule).links k s t phase → AwaitsVotes (run w schedule).servers.sites (run w schedule).links k s t phase
       go t (asking ask x q) ready h = tt
       go t (preparing reads writes []) ready h = absurd (true≢false ready)
-      go t (preparing reads writes (a ∷ awaited)) ready h = (refl, all_weaken (Expects w (run w schedule).servers.sites k s.session s.vector (to_voter (run w schedule).links k) (of_voter (run w schedule).links k) t writes) (Awaits (run w schedule).servers.sites (run w schedule).links k s t) (a ∷ awaited)
+      go t (preparing reads writes (a ∷ awaited)) ready h = (omega arith, all_weaken (Expects w (run w schedule).servers.sites k s.session s.vector (to_voter (run w schedule).links k) (of_voter (run w schedule).links k) t writes) (Awaits (run w schedule).servers.sites (run w schedule).links k s t) (a ∷ awaited)
           (λ a e. record { up = e.up; comes = e.comes }) h)
       go t sent ready h = tt
 
@@ -303,9 +309,6 @@ module _ (w : Workload) where
   pub idle_none : (schedule : List Pick) → is_idle (run w schedule) ≡ true → NoneIsPreparing (run w schedule)
   idle_none schedule idle k s at = go s.up refl
     where
-      abbrev state : World
-      state = run w schedule
-
       go : (u : Bool) → s.up ≡ u → list_any (λ (r : Running). is_preparing r.phase) s.running ≡ false
       go false down = ap (list_any (λ (r : Running). is_preparing r.phase)) (nobody_runs w (run w schedule) (below.known w schedule) k s at down)
       go true up = none_any (λ (r : Running). is_preparing r.phase) s.running

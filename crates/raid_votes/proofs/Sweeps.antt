@@ -1,9 +1,9 @@
 -- What a home does that goes through all its programs, or counts a vote, keeps the votes coming that are awaited still.
-use Rattle.std.proofs.Common.{◌≡◌, inl, inr, ℕ, ℤ, suc, ◌+◌, ◌-◌, ◌≤◌, ◌==◌, Bool, true, false, not, ◌&&◌, List, [], ◌∷◌, ◌++◌, fold, map, find, length, Option, Some, None, if◌then◌else◌, arith, sym, subst, ap, ◌∙◌, refl}
+use Rattle.std.proofs.Common.{◌≡◌, ℕ, ℤ, ◌+◌, ◌≤◌, ◌==◌, Bool, true, false, not, List, [], ◌∷◌, ◌++◌, fold, length, Option, Some, None, if◌then◌else◌, arith, sym, subst, ap, ◌∙◌, refl}
 use Rattle.std.specs.Prelude.{⊤}
 use Rattle.std.specs.List.{AllByRecursion, list_any}
 use Rattle.std.specs.Option.{option_map_or}
-use Rattle.std.proofs.lemmas.Bool.{and_parts, eqb-true, true≢false}
+use Rattle.std.proofs.lemmas.Bool.{and_parts, true≢false}
 use Rattle.raid_base.specs.declared.names.Txn.{Txn}
 use Rattle.raid_base.specs.declared.names.Item.{Item}
 use Rattle.raid_base.specs.declared.names.Site.{Site}
@@ -17,7 +17,7 @@ use Rattle.raid_message.specs.declared.letter.Message.TheVariants as letters
 use Rattle.raid_message.specs.declared.letter.Letter.{Letter}
 use Rattle.raid_report.proofs.Lists.{image_known}
 use Rattle.raid_steps.specs.State.{Out, Turn, opened, send, Phase, asking, preparing, sent, Running, SiteState}
-use Rattle.raid_steps.specs.Fits.{is_of_sequencer, knows_site}
+use Rattle.raid_steps.specs.Fits.{knows_site}
 use Rattle.raid_steps.specs.Programs as programs
 use Rattle.raid_steps.specs.Programs.{put_running, running_of, prepare_out, with_running, change, without_vote, ask_commits}
 use Rattle.raid_steps.specs.Site as rows
@@ -25,7 +25,6 @@ use Rattle.raid_steps.specs.Site.{hear_site}
 use Rattle.raid_sessions.proofs.Ledger.{session_set}
 use Rattle.raid_sessions.proofs.Lists.{not_false}
 use Rattle.raid_sessions.proofs.Mail.{letters_to}
-use Rattle.raid_moves.specs.Moves as parts
 use Rattle.raid_moves.specs.Moves.{Ascend, Tells, Says, but}
 use Rattle.raid_moves.specs.After.{lost_in, lost, joined_in, joined}
 use Rattle.raid_moves.proofs.Places.{program_of, nothing, found_txn, ascend_put, all_found, all_both, all_weaken}
@@ -34,7 +33,7 @@ use Rattle.raid_moves.proofs.Swept.{told_is, said_is, lost_all, joined_all}
 use Rattle.raid_asks.proofs.Notes.{letters_append}
 use Rattle.raid_letters.proofs.Sends.{same_site}
 use Rattle.raid_votes.specs.Votes.{asks_vote, VoteComes}
-use Rattle.raid_votes.proofs.Expects.{any_on, any_new, each_in, one_of, all_put_other, Expects, ExpectsAll}
+use Rattle.raid_votes.proofs.Expects.{any_on, any_new, each_in, one_of, all_put_other, Expects}
 use Rattle.raid_votes.proofs.Home.{with_outs, Waits, Each, Rises, Now, comes_on, comes_new, one_asked, with_one, moves_now}
 
 folds : (P : Turn SiteState → Type 0) (step : Turn SiteState → Running → Turn SiteState) → ((turn : Turn SiteState) (r : Running) → P turn → P (step turn r)) → (rs : List Running) (turn : Turn SiteState) → P turn → P (fold step turn rs)

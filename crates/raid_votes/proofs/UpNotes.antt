@@ -6,7 +6,6 @@ use Rattle.std.proofs.lemmas.Bool.{eqb-true}
 use Rattle.raid_base.specs.declared.entry.Entry.{Entry}
 use Rattle.raid_base.specs.declared.entry.Entry.TheVariants.{Read, Commit, Abort, Down, Up}
 use Rattle.raid_base.specs.declared.entry.Noted.{Noted}
-use Rattle.raid_base.specs.Sites.{site}
 use Rattle.raid_workload.specs.declared.workload.Workload.{Workload}
 use Rattle.raid_rules.specs.History.{noted}
 use Rattle.raid_legal.specs.Seen.{vector}
@@ -18,9 +17,8 @@ use Rattle.raid_steps.specs.State.{Out, SiteState, Copying, opened}
 use Rattle.raid_steps.specs.Sequencer as rows
 use Rattle.raid_steps.specs.Sequencer.{hear_sequencer}
 use Rattle.raid_steps.specs.Site.{hear_site}
-use Rattle.raid_steps.specs.World.{link, run, open_world, first_letter}
+use Rattle.raid_steps.specs.World.{link, run, open_world}
 use Rattle.raid_sessions.proofs.Lists.{all_append}
-use Rattle.raid_sessions.proofs.Mail.{letters_to}
 use Rattle.raid_asks.proofs.Notes.{all_sent}
 use Rattle.raid_asks.proofs.Reached.{first_state, first_notes}
 use Rattle.raid_versions.proofs.Sent.{SendsOf, sends_of}

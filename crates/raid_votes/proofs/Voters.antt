@@ -1,5 +1,5 @@
 -- A step of another site keeps a vote of it coming that a program awaits.
-use Rattle.std.proofs.Common.{◌≡◌, ◌⊎◌, inl, inr, ℕ, ℤ, zero, suc, ◌+◌, ◌-◌, ◌<◌, ◌≤◌, ◌==◌, nat_lt, Bool, true, false, ◌&&◌, List, [], ◌∷◌, ◌++◌, length, fold, map, Some, if◌then◌else◌, arith, sym, subst, ap, ◌∙◌, refl}
+use Rattle.std.proofs.Common.{◌≡◌, ◌⊎◌, inl, inr, ℕ, ℤ, zero, suc, ◌+◌, ◌-◌, ◌<◌, ◌≤◌, ◌==◌, nat_lt, Bool, true, false, ◌&&◌, List, [], ◌∷◌, ◌++◌, length, map, Some, if◌then◌else◌, arith, sym, subst, ap, ◌∙◌, refl}
 use Rattle.std.specs.Prelude.{slice_get, slice_set, slice_index_or}
 use Rattle.std.specs.List.{AllByRecursion, list_any, list_all}
 use Rattle.std.proofs.lemmas.Bool.{and_parts, and_from, eqb-true, true≢false}
@@ -7,7 +7,6 @@ use Rattle.raid_base.specs.declared.names.Txn.{Txn}
 use Rattle.raid_base.specs.declared.names.Item.{Item}
 use Rattle.raid_base.specs.declared.names.Site.{Site}
 use Rattle.raid_base.specs.declared.entry.Answer.TheVariants.{Yes}
-use Rattle.raid_base.specs.declared.entry.Noted.{Noted}
 use Rattle.raid_base.specs.Names.{has_site}
 use Rattle.raid_base.specs.Sites.{site}
 use Rattle.raid_workload.specs.declared.workload.Workload.{Workload}
@@ -17,10 +16,9 @@ use Rattle.raid_rules.proofs.Push.{same_txn}
 use Rattle.raid_message.specs.declared.letter.Message.{Message}
 use Rattle.raid_message.specs.declared.letter.Message.TheVariants as letters
 use Rattle.raid_message.specs.declared.letter.Letter.{Letter}
-use Rattle.raid_steps.specs.State.{Out, Turn, opened, Running, SiteState}
+use Rattle.raid_steps.specs.State.{Out, Turn, opened, SiteState}
 use Rattle.raid_steps.specs.Copies.{holds_copy}
 use Rattle.raid_steps.specs.Fits.{knows_item, knows_pairs, knows_txn}
-use Rattle.raid_steps.specs.Programs.{ask_commit}
 use Rattle.raid_steps.specs.Site as rows
 use Rattle.raid_steps.specs.Site.{hear_site}
 use Rattle.raid_steps.specs.World.{World, link}
@@ -37,7 +35,6 @@ use Rattle.raid_asks.proofs.Notes.{letters_append}
 use Rattle.raid_letters.specs.Says.{is_held, PeerSays, PrepareSays}
 use Rattle.raid_letters.proofs.Runs.{LetterSays, QueueSays}
 use Rattle.raid_versions.proofs.Owed.{Known}
-use Rattle.raid_witness.specs.Ended.{HasEnded}
 use Rattle.raid_votes.specs.Votes.{asks_for, asks_vote, votes_yes, VoteComes, asked, voted, ended}
 use Rattle.raid_votes.proofs.Expects.{any_on, any_new}
 

@@ -1,5 +1,5 @@
 -- A vote that a program in preparation awaits is on its way, or can't come any more.
-use Rattle.std.specs.Prelude.{◌≡◌, ℕ, ℤ, ◌+◌, ◌≤◌, ◌==◌, Bool, true, false, ◌&&◌, List, length, Some, slice_get, ⊤}
+use Rattle.std.specs.Prelude.{◌≡◌, ℕ, ◌+◌, ◌≤◌, ◌==◌, Bool, true, false, ◌&&◌, List, length, Some, slice_get, ⊤}
 use Rattle.std.specs.List.{AllByRecursion, list_any}
 use Rattle.raid_base.specs.declared.names.Txn.{Txn}
 use Rattle.raid_base.specs.declared.names.Site.{Site}
@@ -51,7 +51,7 @@ pub record Awaits (sites : List SiteState) (links : List (List (List Letter))) (
 -- a program in preparation awaits some vote, and each that it awaits comes
 abbrev pub AwaitsVotes : List SiteState → List (List (List Letter)) → ℕ → SiteState → Txn → Phase → Type 0
 AwaitsVotes sites links k s t (preparing reads writes awaited) =
-    ((length awaited == 0) ≡ false) × AllByRecursion (Awaits sites links k s t) awaited
+    (1 ≤ length awaited) × AllByRecursion (Awaits sites links k s t) awaited
 AwaitsVotes sites links k s t other = ⊤
 
 -- so does each program that runs
