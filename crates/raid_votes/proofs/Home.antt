@@ -153,7 +153,7 @@ module _ (w : Workload) (all : List SiteState) (k : ℕ) (state : SiteState) (fr
           Expects w all k state.session turn.state.vector (with_outs (turn.outs ++ map (prepare_out w turn.state.vector r.txn (comes_to w r).writes) (voters w turn.state (comes_to w r).writes))) votes r.txn (comes_to w r).writes a
       expects a has =
           let kept = and_parts ((is_site_up turn.state.vector a && not (is_site turn.state.site a)) && holds_some w writes a) (has_site (sites w) a)
-              (sym (has_kept (λ s. is_site_up turn.state.vector s && not (is_site turn.state.site s) && holds_some w writes s) a (sites w)) ∙ has) in
+          (sym (has_kept (λ s. is_site_up turn.state.vector s && not (is_site turn.state.site s) && holds_some w writes s) a (sites w)) ∙ has) in
           let both = and_parts (is_site_up turn.state.vector a && not (is_site turn.state.site a)) (holds_some w writes a) kept.0 in
           let first = and_parts (is_site_up turn.state.vector a) (not (is_site turn.state.site a)) both.0 in
           record {

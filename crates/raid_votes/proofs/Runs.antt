@@ -218,7 +218,7 @@ module _ (w : Workload) where
               at_voter c =
                   let two : j + 1 + 1 ≡ j + 2 = omega arith in
                   let now = voter_step w world besides.known from clock letter rest j own at front i s.session (session s.vector a) t (txn_fits w t ours.known) (past here)
-                      (subst (λ c. VoteComes sites (link links c (i + 2)) (link links (i + 2) c) s.session (session s.vector a) t (site (j + 1))) two c) in
+                  (subst (λ c. VoteComes sites (link links c (i + 2)) (link links (i + 2) c) s.session (session s.vector a) t (site (j + 1))) two c) in
                   subst (λ c. VoteComes changed (link after c (i + 2)) (link after (i + 2) c) s.session (session s.vector a) t (site (j + 1))) (sym two)
                   (subst (λ ls. VoteComes changed ls (link after (i + 2) (j + 2)) s.session (session s.vector a) t (site (j + 1))) (sym (leaves (i + 2) apart_here))
                   (subst (λ ls. VoteComes changed (if from == i + 2 then rest else link links (j + 2) (i + 2)) ls s.session (session s.vector a) t (site (j + 1))) (sym (sends (i + 2) (room i s there) apart_here)) now))
@@ -301,8 +301,11 @@ module _ (w : Workload) where
       go : (t : Txn) (phase : Phase) → is_ready phase ≡ false → ExpectsHere (run w schedule).servers.sites (run w schedule).links k s t phase → AwaitsVotes (run w schedule).servers.sites (run w schedule).links k s t phase
       go t (asking ask x q) ready h = tt
       go t (preparing reads writes []) ready h = absurd (true≢false ready)
-      go t (preparing reads writes (a ∷ awaited)) ready h = (omega arith, all_weaken (Expects w (run w schedule).servers.sites k s.session s.vector (to_voter (run w schedule).links k) (of_voter (run w schedule).links k) t writes) (Awaits (run w schedule).servers.sites (run w schedule).links k s t) (a ∷ awaited)
-          (λ a e. record { up = e.up; comes = e.comes }) h)
+      go t (preparing reads writes (a ∷ awaited)) ready h = (
+        omega arith,
+        all_weaken (Expects w (run w schedule).servers.sites k s.session s.vector (to_voter (run w schedule).links k) (of_voter (run w schedule).links k) t writes) (Awaits (run w schedule).servers.sites (run w schedule).links k s t) (a ∷ awaited)
+            (λ a e. record { up = e.up; comes = e.comes }) h,
+      )
       go t sent ready h = tt
 
   -- where no letter is left

@@ -32,24 +32,25 @@ asks_vote m n t l = (l.from == m && l.to == n) && asks_for t l.message
 abbrev pub votes_yes : ℕ → ℕ → Txn → Letter → Bool
 votes_yes m n t l = (l.from == n && l.to == m) && agrees_to t l.message
 
--- the vote of a site in its session n comes to the home in its session m: a letter of the home asks
--- for it, a letter of the site brings it, or the site's session has ended, so that it never comes
-pub data VoteComes (sites : List SiteState) (asks votes : List Letter) (m n : ℕ) (t : Txn) (a : Site)
-    : Type 0 where
+-- the vote of a site in its session n comes to the home in its session m: a letter of the home
+-- asks for it, a letter of the site brings it, or the site's session has ended, so it never comes
+pub data VoteComes (sites : List SiteState) (asks votes : List Letter) (m n : ℕ) (t : Txn)
+    (a : Site) : Type 0 where
   asked : list_any (asks_vote m n t) asks ≡ true → VoteComes sites asks votes m n t a
   voted : list_any (votes_yes m n t) votes ≡ true → VoteComes sites asks votes m n t a
   ended : HasEnded sites a n → VoteComes sites asks votes m n t a
 
 -- so does the vote that a program of the site at a place, counted from 0, awaits of another site:
 -- of the session, not 0, in which the home's vector has it
-pub record Awaits (sites : List SiteState) (links : List (List (List Letter))) (k : ℕ) (s : SiteState)
-    (t : Txn) (a : Site) : Type 0 where
+pub record Awaits (sites : List SiteState) (links : List (List (List Letter))) (k : ℕ)
+    (s : SiteState) (t : Txn) (a : Site) : Type 0 where
   pub up : 1 ≤ session s.vector a
   pub comes : VoteComes sites (link links (a.0 + 1) (k + 2)) (link links (k + 2) (a.0 + 1))
       s.session (session s.vector a) t a
 
 -- a program in preparation awaits some vote, and each that it awaits comes
-abbrev pub AwaitsVotes : List SiteState → List (List (List Letter)) → ℕ → SiteState → Txn → Phase → Type 0
+abbrev pub AwaitsVotes :
+    List SiteState → List (List (List Letter)) → ℕ → SiteState → Txn → Phase → Type 0
 AwaitsVotes sites links k s t (preparing reads writes awaited) =
     (1 ≤ length awaited) × AllByRecursion (Awaits sites links k s t) awaited
 AwaitsVotes sites links k s t other = ⊤
@@ -58,7 +59,8 @@ AwaitsVotes sites links k s t other = ⊤
 abbrev pub VotesCome : World → Type 0
 VotesCome state =
     (k : ℕ) (s : SiteState) → slice_get state.servers.sites k ≡ Some s →
-    AllByRecursion (λ (r : Running). AwaitsVotes state.servers.sites state.links k s r.txn r.phase) s.running
+    AllByRecursion
+    (λ (r : Running). AwaitsVotes state.servers.sites state.links k s r.txn r.phase) s.running
 
 -- no program of any site is in preparation
 abbrev pub NoneIsPreparing : World → Type 0

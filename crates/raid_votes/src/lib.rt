@@ -10,8 +10,8 @@ ghost use Rattle.raid_message.specs.declared.letter.Pick.{Pick};
 ghost use Rattle.raid_steps.specs.World.{run, is_idle};
 ghost use Rattle.raid_votes.specs.Votes.{VotesCome, NoneIsPreparing};
 
-/// Whatever steps were taken: each program that is in preparation at its home awaits some vote, and each vote that it awaits is of a site that the home's
-/// vector has up. The home's letter that asks for that vote is on its way, or the site's that brings it, or the session asked for has ended.
+/// Whatever steps were taken: each program that is in preparation at its home awaits some vote, and each vote that it awaits is of a site that the
+/// home's vector has up. The home's letter that asks for that vote is on its way, or the site's that brings it, or the session asked for has ended.
 pub fn awaited_votes_are_on_their_way()
     ensures { (w : Workload) (schedule : List Pick) → VotesCome (run w schedule) }
 {}
