@@ -108,51 +108,51 @@ module _ (members : List Txn) (leads : Edges) (start : Txn) where
 
   -- a place with the last mark, whose sources are marked
   module _ (most next places : ℕ) (marks more : List ℕ) (some : 0 < most) (up : next ≡ most + 1) (here : places < length members) (is_last : slice_index marks places ≡ most) (m : Marks most next places marks)
-    (as_long : length more ≡ length marks)
-    (each : (k : ℕ) → k < length members → slice_index more k ≡ cond (slice_index marks k == 0 && leads (member_at members k) (member_at members places)) next (slice_index marks k))
+      (as_long : length more ≡ length marks)
+      (each : (k : ℕ) → k < length members → slice_index more k ≡ cond (slice_index marks k == 0 && leads (member_at members k) (member_at members places)) next (slice_index marks k))
     where
-    kept : (k : ℕ) → k < length members → 0 < slice_index marks k → slice_index more k ≡ slice_index marks k
-    kept k below marked =
-        each k below ∙ cond-false _ next (slice_index marks k) (and_left (slice_index marks k == 0) _ (ne_eqb (slice_index marks k) 0 (λ z. omega (arith, z, marked))))
+      kept : (k : ℕ) → k < length members → 0 < slice_index marks k → slice_index more k ≡ slice_index marks k
+      kept k below marked =
+          each k below ∙ cond-false _ next (slice_index marks k) (and_left (slice_index marks k == 0) _ (ne_eqb (slice_index marks k) 0 (λ z. omega (arith, z, marked))))
 
-    changed : (k : ℕ) → k < length members → (slice_index more k ≡ slice_index marks k) ⊎ ((slice_index more k ≡ next) × (slice_index marks k ≡ 0) × (leads (member_at members k) (member_at members places) ≡ true))
-    changed k below = elim (cases_Bool (slice_index marks k == 0 && leads (member_at members k) (member_at members places))) [
-      | inl h ↦ let q = and_parts (slice_index marks k == 0) (leads (member_at members k) (member_at members places)) h in inr (each k below ∙ cond-true _ next (slice_index marks k) h, eqb-true (slice_index marks k) 0 q.0, q.1)
-      | inr h ↦ inl (each k below ∙ cond-false _ next (slice_index marks k) h)
-    ]
+      changed : (k : ℕ) → k < length members → (slice_index more k ≡ slice_index marks k) ⊎ ((slice_index more k ≡ next) × (slice_index marks k ≡ 0) × (leads (member_at members k) (member_at members places) ≡ true))
+      changed k below = elim (cases_Bool (slice_index marks k == 0 && leads (member_at members k) (member_at members places))) [
+        | inl h ↦ let q = and_parts (slice_index marks k == 0) (leads (member_at members k) (member_at members places)) h in inr (each k below ∙ cond-true _ next (slice_index marks k) h, eqb-true (slice_index marks k) 0 q.0, q.1)
+        | inr h ↦ inl (each k below ∙ cond-false _ next (slice_index marks k) h)
+      ]
 
-    pub adds : Marks most next (places + 1) more
-    adds = record {
-      long = as_long ∙ m.long;
-      has_way = λ k below marked. elim (changed k below) [
-        | inl h ↦ subst (λ n. HasWay members leads start (member_at members k) n) (sym h) (m.has_way k below (omega (arith, h, marked)))
-        | inr h ↦
-            let w : HasWay members leads start (member_at members places) most = subst (λ n. HasWay members leads start (member_at members places) n) is_last (m.has_way places here (omega (arith, is_last, some))) in
-            subst (λ n. HasWay members leads start (member_at members k) n) (sym up ∙ sym h.0) (longer (member_at members k) places most here h.2 w)
-      ];
-      fewest = λ k edges below few w.
-          let f = m.fewest k edges below few w in
-          let same : slice_index more k ≡ slice_index marks k = kept k below f.0 in
-          (subst (λ n. 0 < n) (sym same) f.0, subst (λ n. n ≤ edges) (sym same) f.1);
-      within = λ k below. elim (changed k below) [
-        | inl h ↦ subst (λ n. n ≤ next) (sym h) (m.within k below)
-        | inr h ↦ let i = h.0 in omega (arith, i)
-      ];
-      sources = λ j k before there below is e. elim (cases_lt 0 (slice_index marks k)) [
-        | inl h ↦ subst (λ n. 0 < n) (sym (kept k below h)) h
-        | inr h ↦
-            elim (cases_eq j places) [
-              | inl i ↦
-                  let z : slice_index marks k ≡ 0 = omega (arith, h) in
-                  let n : slice_index more k ≡ next = each k below ∙ cond-true _ next (slice_index marks k) (and_from _ _ (eq-eqb (slice_index marks k) 0 z) (subst (λ x. leads (member_at members k) (member_at members x) ≡ true) i e)) in
-                  omega (arith, n, up)
-              | inr i ↦ absurd (elim (changed j there) [
+      pub adds : Marks most next (places + 1) more
+      adds = record {
+        long = as_long ∙ m.long;
+        has_way = λ k below marked. elim (changed k below) [
+          | inl h ↦ subst (λ n. HasWay members leads start (member_at members k) n) (sym h) (m.has_way k below (omega (arith, h, marked)))
+          | inr h ↦
+              let w : HasWay members leads start (member_at members places) most = subst (λ n. HasWay members leads start (member_at members places) n) is_last (m.has_way places here (omega (arith, is_last, some))) in
+              subst (λ n. HasWay members leads start (member_at members k) n) (sym up ∙ sym h.0) (longer (member_at members k) places most here h.2 w)
+        ];
+        fewest = λ k edges below few w.
+            let f = m.fewest k edges below few w in
+            let same : slice_index more k ≡ slice_index marks k = kept k below f.0 in
+            (subst (λ n. 0 < n) (sym same) f.0, subst (λ n. n ≤ edges) (sym same) f.1);
+        within = λ k below. elim (changed k below) [
+          | inl h ↦ subst (λ n. n ≤ next) (sym h) (m.within k below)
+          | inr h ↦ let i = h.0 in omega (arith, i)
+        ];
+        sources = λ j k before there below is e. elim (cases_lt 0 (slice_index marks k)) [
+          | inl h ↦ subst (λ n. 0 < n) (sym (kept k below h)) h
+          | inr h ↦
+              elim (cases_eq j places) [
+                | inl i ↦
+                    let z : slice_index marks k ≡ 0 = omega (arith, h) in
+                    let n : slice_index more k ≡ next = each k below ∙ cond-true _ next (slice_index marks k) (and_from _ _ (eq-eqb (slice_index marks k) 0 z) (subst (λ x. leads (member_at members k) (member_at members x) ≡ true) i e)) in
+                    omega (arith, n, up)
+                | inr i ↦ absurd (elim (changed j there) [
                   | inl s ↦ let g = m.sources j k (omega (arith, before, i)) there below (sym s ∙ is) e in omega (arith, g, h)
                   | inr s ↦ let t = s.0 in omega (arith, t, is, up)
                 ])
-            ]
-      ];
-    }
+              ]
+        ];
+      }
 
   -- all places looked at
   pub ends : (most next places : ℕ) (marks : List ℕ) → 0 < most → next ≡ most + 1 → length members ≤ places → Marks most next places marks → AreMarked members leads start next marks

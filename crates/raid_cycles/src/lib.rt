@@ -4,6 +4,8 @@
 pub mod graph;
 mod marks;
 mod search;
+#[cfg(test)]
+mod tests;
 
 pub use graph::Graph;
 pub use search::least_cycle;

@@ -7,7 +7,7 @@ use raid_base::{NoMemory, Txn};
 use std::alloc::Global;
 
 /// Marks of the members that lead to the start by one edge.
-pub fn first_marks<G: Graph>(
+fn first_marks<G: Graph>(
     alloc: Global,
     graph: &G,
     members: &[Txn],
@@ -71,7 +71,7 @@ fn mark_more<G: Graph>(
 }
 
 /// Marks one more edge's way at a time, until the start has a mark or no other gets one.
-pub fn settle<G: Graph>(graph: &G, members: &[Txn], marks: &mut [usize], place: usize)
+fn settle<G: Graph>(graph: &G, members: &[Txn], marks: &mut [usize], place: usize)
     requires place { place < length members.now }
     requires marked { AreMarked members.now (G.edges graph.now) (member_at members.now place) 1 marks.old }
     ensures { AreSettled members.now (G.edges graph.now) (member_at members.now place) place marks.new }
@@ -84,4 +84,20 @@ pub fn settle<G: Graph>(graph: &G, members: &[Txn], marks: &mut [usize], place: 
             return;
         }
     }
+}
+
+/// How many edges each member has to go to the one at the place, where it leads to it, as far as the shortest way from that one to
+/// itself.
+pub fn marks_to<G: Graph>(
+    alloc: Global,
+    graph: &G,
+    members: &[Txn],
+    place: usize,
+) -> Result<Vec<usize>, NoMemory>
+    requires { place < length members.now }
+    ensures { IfOk result (λ marks. AreSettled members.now (G.edges graph.now) (member_at members.now place) place marks.items) }
+{
+    let mut marks = first_marks(alloc, graph, members, members[place])?;
+    settle(graph, members, &mut marks, place);
+    Ok(marks)
 }

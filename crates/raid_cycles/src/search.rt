@@ -67,15 +67,18 @@ fn follow<G: Graph>(
 
 /// Of all cycles through a transaction the shortest, and among the shortest the least by numbers; None exactly where no cycle goes
 /// through it. It begins with the transaction. Asks each question of the graph at most twice. Want of memory is the only error.
-pub fn least_cycle<G: Graph>(graph: &G, start: Txn, alloc: Global) -> Result<Option<TxnList>, NoMemory>
+pub fn least_cycle<G: Graph>(
+    graph: &G,
+    start: Txn,
+    alloc: Global,
+) -> Result<Option<TxnList>, NoMemory>
     ensures { IfOk result (λ found. MatchOption found ((cycle : List Txn) → IsCycle (G.transactions graph.now) (G.edges graph.now) start cycle → ⊥) (IsLeastCycle (G.transactions graph.now) (G.edges graph.now) start)) }
 {
     let members = graph.members();
     let Some(place) = place_of(members, start) else {
         return Ok(None);
     };
-    let mut marks = marks::first_marks(alloc, graph, members, start)?;
-    marks::settle(graph, members, &mut marks, place);
+    let marks = marks::marks_to(alloc, graph, members, place)?;
     if marks[place] == 0 {
         return Ok(None);
     }
