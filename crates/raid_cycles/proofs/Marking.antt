@@ -1,10 +1,9 @@
 -- Marks and ways to the start.
-use Rattle.std.proofs.Common.{◌≡◌, ℕ, zero, suc, ◌+◌, ◌<◌, ◌≤◌, ◌⊎◌, inl, inr, Bool, true, false, ◌&&◌, ◌==◌, cond, List, [], ◌∷◌, map, length, get_or, arith, sym, ◌∙◌, ap, subst, refl, All}
+use Rattle.std.proofs.Common.{◌≡◌, ℕ, ◌+◌, ◌<◌, ◌≤◌, ◌⊎◌, inl, inr, Bool, true, false, ◌&&◌, ◌==◌, cond, List, [], ◌∷◌, map, length, get_or, arith, sym, ◌∙◌, ap, subst, refl, All}
 use Rattle.std.specs.Prelude.{Contains, count_by, slice_index}
-use Rattle.std.proofs.lemmas.Bool.{true≢false, and_parts, and_from, cases_Bool, eqb-true, eqb-false, cases_eq, cases_lt, cond-true, cond-false, and_left, ne_eqb, eq-eqb}
+use Rattle.std.proofs.lemmas.Bool.{true≢false, and_parts, and_from, cases_Bool, eqb-true, cases_eq, cases_lt, cond-true, cond-false, and_left, ne_eqb, eq-eqb}
 use Rattle.std.proofs.lemmas.List.{get_or-map, get_or_default, length-map}
 use Rattle.std.proofs.lemmas.List.Elements.{All-nil, All-cons, All-head, All-tail, Contains-get_or}
-use Rattle.std.proofs.lemmas.List.Sums.{get_or-le-sum_by, count_by-le-length}
 use Rattle.raid_base.specs.declared.names.Txn.{Txn}
 use Rattle.raid_cycles.specs.Cycles.{Edges, leads_along}
 use Rattle.raid_cycles.specs.Marks.{member_at, HasWay, AreMarked, AreSettled}
@@ -34,7 +33,8 @@ module _ (members : List Txn) (leads : Edges) (start : Txn) where
   }
 
   -- the first edge of a way
-  pub first_edge : (from : Txn) (edges : ℕ) → HasWay members leads start from edges → ((edges ≡ 1) × (leads from start ≡ true)) ⊎ GoesOn members leads start from edges
+  pub first_edge : (from : Txn) (edges : ℕ) → HasWay members leads start from edges →
+      ((edges ≡ 1) × (leads from start ≡ true)) ⊎ GoesOn members leads start from edges
   first_edge from edges w = go w.through w.long w.among w.along
     where
       go : (through : List Txn) → length through + 1 ≡ edges → All (Contains members) through → leads_along leads from through start ≡ true →
@@ -80,21 +80,15 @@ module _ (members : List Txn) (leads : Edges) (start : Txn) where
   pub record Marks (most next places : ℕ) (marks : List ℕ) : Type 0 where
     pub long : length marks ≡ length members
     pub has_way : (k : ℕ) → k < length members → 0 < slice_index marks k → HasWay members leads start (member_at members k) (slice_index marks k)
-    pub fewest : (k edges : ℕ) → k < length members → edges ≤ most → HasWay members leads start (member_at members k) edges → (0 < slice_index marks k) × (slice_index marks k ≤ edges)
+    pub fewest : (k edges : ℕ) → k < length members → edges ≤ most → HasWay members leads start (member_at members k) edges →
+        (0 < slice_index marks k) × (slice_index marks k ≤ edges)
     pub within : (k : ℕ) → k < length members → slice_index marks k ≤ next
-    pub sources : (j k : ℕ) → j < places → j < length members → k < length members → slice_index marks j ≡ most → leads (member_at members k) (member_at members j) ≡ true → 0 < slice_index marks k
-
-  pub begins : (most next : ℕ) (marks : List ℕ) → next ≡ most + 1 → AreMarked members leads start most marks → Marks most next 0 marks
-  begins most next marks e m = record {
-    long = m.long;
-    has_way = m.has_way;
-    fewest = m.fewest;
-    within = λ k below. let w = m.within k below in omega (arith, e, w);
-    sources = λ j k before. absurd (omega (arith, before));
-  }
+    pub sources : (j k : ℕ) → j < places → j < length members → k < length members → slice_index marks j ≡ most →
+        leads (member_at members k) (member_at members j) ≡ true → 0 < slice_index marks k
 
   -- a place with another mark
-  pub passes : (most next places : ℕ) (marks : List ℕ) → (slice_index marks places ≡ most → ⊥) → Marks most next places marks → Marks most next (places + 1) marks
+  pub passes : (most next places : ℕ) (marks : List ℕ) → (slice_index marks places ≡ most → ⊥) → Marks most next places marks →
+      Marks most next (places + 1) marks
   passes most next places marks other m = record {
     long = m.long;
     has_way = m.has_way;
@@ -115,7 +109,8 @@ module _ (members : List Txn) (leads : Edges) (start : Txn) where
       kept k below marked =
           each k below ∙ cond-false _ next (slice_index marks k) (and_left (slice_index marks k == 0) _ (ne_eqb (slice_index marks k) 0 (λ z. omega (arith, z, marked))))
 
-      changed : (k : ℕ) → k < length members → (slice_index more k ≡ slice_index marks k) ⊎ ((slice_index more k ≡ next) × (slice_index marks k ≡ 0) × (leads (member_at members k) (member_at members places) ≡ true))
+      changed : (k : ℕ) → k < length members →
+          (slice_index more k ≡ slice_index marks k) ⊎ ((slice_index more k ≡ next) × (slice_index marks k ≡ 0) × (leads (member_at members k) (member_at members places) ≡ true))
       changed k below = elim (cases_Bool (slice_index marks k == 0 && leads (member_at members k) (member_at members places))) [
         | inl h ↦ let q = and_parts (slice_index marks k == 0) (leads (member_at members k) (member_at members places)) h in inr (each k below ∙ cond-true _ next (slice_index marks k) h, eqb-true (slice_index marks k) 0 q.0, q.1)
         | inr h ↦ inl (each k below ∙ cond-false _ next (slice_index marks k) h)
@@ -155,7 +150,8 @@ module _ (members : List Txn) (leads : Edges) (start : Txn) where
       }
 
   -- all places looked at
-  pub ends : (most next places : ℕ) (marks : List ℕ) → 0 < most → next ≡ most + 1 → length members ≤ places → Marks most next places marks → AreMarked members leads start next marks
+  pub ends : (most next places : ℕ) (marks : List ℕ) → 0 < most → next ≡ most + 1 → length members ≤ places → Marks most next places marks →
+      AreMarked members leads start next marks
   ends most next places marks some up all m = record {
     long = m.long;
     has_way = m.has_way;
@@ -185,7 +181,8 @@ module _ (members : List Txn) (leads : Edges) (start : Txn) where
   }
 
   -- where the next round marks no more, all that lead to the start are marked
-  pub all_marked : (most : ℕ) (marks : List ℕ) → AreMarked members leads start most marks → AreMarked members leads start (most + 1) marks → (through : List Txn) (k : ℕ) → k < length members → All (Contains members) through →
+  pub all_marked : (most : ℕ) (marks : List ℕ) → AreMarked members leads start most marks → AreMarked members leads start (most + 1) marks →
+      (through : List Txn) (k : ℕ) → k < length members → All (Contains members) through →
       leads_along leads (member_at members k) through start ≡ true → 0 < slice_index marks k
   all_marked most marks m n [] k below among along = (n.fewest k 1 below (omega arith) (record { through = []; long = refl; among = among; along = along })).0
   all_marked most marks m n (next ∷ rest) k below among along =
@@ -203,12 +200,14 @@ pub record Round (members : List Txn) (leads : Edges) (most next : ℕ) (before 
   pub none : found ≡ false → marks ≡ before
   pub fewer : count_by (λ m. m == 0) marks + cond found 1 0 ≤ count_by (λ m. m == 0) before
 
-pub round_same : (members : List Txn) (leads : Edges) (most next : ℕ) (before : List ℕ) (places : ℕ) (marks ms : List ℕ) (found f : Bool) → ms ≡ marks → f ≡ found →
+pub round_same : (members : List Txn) (leads : Edges) (most next : ℕ) (before : List ℕ) (places : ℕ) (marks ms : List ℕ) (found f : Bool) →
+    ms ≡ marks → f ≡ found →
     Round members leads most next before places marks found → Round members leads most next before places ms f
 round_same members leads most next before places marks ms found f e i r =
     subst (λ z. Round members leads most next before places z f) (sym e) (subst (λ z. Round members leads most next before places marks z) (sym i) r)
 
-pub round_passes : (members : List Txn) (leads : Edges) (most next : ℕ) (before : List ℕ) (places : ℕ) (marks : List ℕ) (found : Bool) → Round members leads most next before places marks found →
+pub round_passes : (members : List Txn) (leads : Edges) (most next : ℕ) (before : List ℕ) (places : ℕ) (marks : List ℕ) (found : Bool) →
+    Round members leads most next before places marks found →
     (slice_index marks places ≡ most → ⊥) → Round members leads most next before (places + 1) marks found
 round_passes members leads most next before places marks found r other = record {
   long = r.long;
@@ -232,30 +231,18 @@ round_adds members leads most next before places marks found more any r some up 
     same true s e = absurd (true≢false e)
     same false s e = s refl ∙ r.none e
 
-    less : (b : Bool) → count_by (λ m. m == 0) more + cond b 1 0 ≤ count_by (λ m. m == 0) marks → count_by (λ m. m == 0) marks + cond found 1 0 ≤ count_by (λ m. m == 0) before →
+    less : (b : Bool) → count_by (λ m. m == 0) more + cond b 1 0 ≤ count_by (λ m. m == 0) marks →
+        count_by (λ m. m == 0) marks + cond found 1 0 ≤ count_by (λ m. m == 0) before →
         count_by (λ m. m == 0) more + cond (cond b true found) 1 0 ≤ count_by (λ m. m == 0) before
     less true e f = omega (arith, e, f)
     less false e f = omega (arith, e, f)
 
--- the ways that a settled search ends with
-pub settled_found : (members : List Txn) (leads : Edges) (place most : ℕ) (marks : List ℕ) → AreMarked members leads (member_at members place) most marks → (slice_index marks place ≡ 0 → ⊥) → AreSettled members leads (member_at members place) place marks
-settled_found members leads place most marks m marked = record { most = most; marked = m; whole = λ edges w. omega (arith, marked) }
-
-pub settled_none : (members : List Txn) (leads : Edges) (place most : ℕ) (marks more : List ℕ) → place < length members → AreMarked members leads (member_at members place) most marks →
+-- a search that marks no more is settled
+pub settled_none : (members : List Txn) (leads : Edges) (place most : ℕ) (marks more : List ℕ) → place < length members →
+    AreMarked members leads (member_at members place) most marks →
     AreMarked members leads (member_at members place) (most + 1) more → more ≡ marks → AreSettled members leads (member_at members place) place more
 settled_none members leads place most marks more below m n same = record {
   most = most + 1;
   marked = n;
   whole = λ edges w. all_marked members leads (member_at members place) most more (subst (λ z. AreMarked members leads (member_at members place) most z) (sym same) m) n w.through place below w.among w.along;
 }
-
--- the unmarked ones run out
-pub few_unmarked : (marks : List ℕ) → count_by (λ m. m == 0) marks ≤ length marks
-few_unmarked marks = count_by-le-length (λ m. m == 0) marks
-
-pub none_unmarked : (marks : List ℕ) (k : ℕ) → k < length marks → count_by (λ m. m == 0) marks ≡ 0 → slice_index marks k ≡ 0 → ⊥
-none_unmarked marks k below none z =
-    let a : cond (slice_index marks k == 0) 1 0 ≤ count_by (λ m. m == 0) marks = get_or-le-sum_by (λ m. cond (m == 0) 1 0) marks k 0 below in
-    let one : ℕ = 1 in
-    let b : cond (slice_index marks k == 0) 1 0 ≡ one = cond-true (slice_index marks k == 0) 1 0 (eq-eqb (slice_index marks k) 0 z) in
-    omega (arith, a, b, none)

@@ -1,5 +1,5 @@
 -- From each member to the first that has one edge less to go.
-use Rattle.std.proofs.Common.{◌≡◌, ℕ, zero, suc, ◌+◌, ◌<◌, ◌≤◌, ◌⊎◌, inl, inr, Bool, true, false, ◌&&◌, ◌||◌, ◌==◌, cond, List, [], ◌∷◌, ◌++◌, length, arith, sym, ◌∙◌, ap, subst, refl, All, append_assoc}
+use Rattle.std.proofs.Common.{◌≡◌, ℕ, suc, ◌+◌, ◌<◌, ◌≤◌, inl, inr, true, false, ◌&&◌, ◌==◌, cond, List, [], ◌∷◌, length, arith, sym, ◌∙◌, ap, subst, refl, All}
 use Rattle.std.specs.Prelude.{Contains, slice_index, nat_lt, position, Some, None}
 use Rattle.std.specs.List.{position_or_len}
 use Rattle.std.proofs.lemmas.Bool.{and_parts, and_from, and_left, and_right, or_from, le-ltb, lt-ltb, eqb-true, eq-eqb, true≢false, ne_eqb, cases_eq, cases_lt}
@@ -11,14 +11,15 @@ use Rattle.raid_base.specs.declared.names.Txn.{Txn}
 use Rattle.raid_base.specs.Names.{is_txn}
 use Rattle.raid_cycles.specs.Cycles.{Edges, IsAscending, leads_along, is_smaller, comes_before, IsCycle, IsLeastCycle}
 use Rattle.raid_cycles.specs.Marks.{member_at, HasWay, AreMarked, AreSettled}
-use Rattle.raid_cycles.proofs.Marking.{GoesOn, place_of, longer, first_edge}
+use Rattle.raid_cycles.proofs.Marking.{place_of, longer, first_edge}
 
 -- a way to the start, of so many edges, that is the least of these
 pub record IsLeastWay (members : List Txn) (leads : Edges) (start from : Txn) (edges : ℕ) (through : List Txn) : Type 0 where
   pub long : length through + 1 ≡ edges
   pub among : All (Contains members) through
   pub along : leads_along leads from through start ≡ true
-  pub least : (other : List Txn) → length other ≡ length through → All (Contains members) other → leads_along leads from other start ≡ true → is_smaller other through ≡ false
+  pub least : (other : List Txn) → length other ≡ length through → All (Contains members) other → leads_along leads from other start ≡ true →
+      is_smaller other through ≡ false
 
 -- nothing is smaller than the same before what isn't smaller
 not_smaller : (t u : Txn) (ts us : List Txn) → t ≡ u → is_smaller ts us ≡ false → is_smaller (t ∷ ts) (u ∷ us) ≡ false
@@ -32,7 +33,8 @@ larger_first t u ts us above =
 
 module _ (members : List Txn) (leads : Edges) (start : Txn) (most : ℕ) (marks : List ℕ) (m : AreMarked members leads start most marks) where
   -- one that is led to, and has a way of one edge less, has that mark
-  one_less : (place k edges : ℕ) → place < length members → k < length members → slice_index marks place ≡ edges + 1 → leads (member_at members place) (member_at members k) ≡ true →
+  one_less : (place k edges : ℕ) → place < length members → k < length members → slice_index marks place ≡ edges + 1 →
+      leads (member_at members place) (member_at members k) ≡ true →
       HasWay members leads start (member_at members k) edges → slice_index marks k ≡ edges
   one_less place k edges below there here e w =
       let in_reach = m.within place below in
@@ -57,7 +59,8 @@ module _ (members : List Txn) (leads : Edges) (start : Txn) (most : ℕ) (marks 
   ]
 
   -- and the least way goes on by the first
-  pub goes_first : IsAscending members → (place k edges : ℕ) (through : List Txn) → place < length members → k < length members → slice_index marks place ≡ edges + 1 → slice_index marks k ≡ edges →
+  pub goes_first : IsAscending members → (place k edges : ℕ) (through : List Txn) → place < length members → k < length members →
+      slice_index marks place ≡ edges + 1 → slice_index marks k ≡ edges →
       leads (member_at members place) (member_at members k) ≡ true →
       ((j : ℕ) → j < k → slice_index marks j ≡ edges → leads (member_at members place) (member_at members j) ≡ true → ⊥) →
       IsLeastWay members leads start (member_at members k) edges through → IsLeastWay members leads start (member_at members place) (edges + 1) (member_at members k ∷ through)
@@ -68,7 +71,8 @@ module _ (members : List Txn) (leads : Edges) (start : Txn) (most : ℕ) (marks 
     least = other;
   }
     where
-      other : (ts : List Txn) → length ts ≡ length (member_at members k ∷ through) → All (Contains members) ts → leads_along leads (member_at members place) ts start ≡ true → is_smaller ts (member_at members k ∷ through) ≡ false
+      other : (ts : List Txn) → length ts ≡ length (member_at members k ∷ through) → All (Contains members) ts →
+          leads_along leads (member_at members place) ts start ≡ true → is_smaller ts (member_at members k ∷ through) ≡ false
       other [] long among along = absurd (omega (arith, long))
       other (t ∷ ts) long among along =
           let c : Contains members t = All-head (Contains members) t ts among in
@@ -105,7 +109,8 @@ at_once members leads start from w = go w.through w.long w.along
     go (t ∷ ts) long along = absurd (omega (arith, long))
 
 -- the least way from the start closes the least cycle
-pub closes_least : (members : List Txn) (leads : Edges) (place : ℕ) (marks : List ℕ) (tail : List Txn) → place < length members → AreSettled members leads (member_at members place) place marks →
+pub closes_least : (members : List Txn) (leads : Edges) (place : ℕ) (marks : List ℕ) (tail : List Txn) → place < length members →
+    AreSettled members leads (member_at members place) place marks →
     IsLeastWay members leads (member_at members place) (member_at members place) (slice_index marks place) tail → IsLeastCycle members leads (member_at members place) (member_at members place ∷ tail)
 closes_least members leads place marks tail below settled way = record {
   cycles = record {
@@ -117,7 +122,8 @@ closes_least members leads place marks tail below settled way = record {
   least = λ other c. subst (λ z. comes_before z (member_at members place ∷ tail) ≡ false) (sym c.begins) (least c.rest (All-tail (Contains members) (member_at members place) c.rest (subst (All (Contains members)) c.begins c.among)) c.closed);
 }
   where
-    least : (rest : List Txn) → All (Contains members) rest → leads_along leads (member_at members place) rest (member_at members place) ≡ true → comes_before (member_at members place ∷ rest) (member_at members place ∷ tail) ≡ false
+    least : (rest : List Txn) → All (Contains members) rest → leads_along leads (member_at members place) rest (member_at members place) ≡ true →
+        comes_before (member_at members place ∷ rest) (member_at members place ∷ tail) ≡ false
     least rest among along =
         let m = settled.marked in
         let w : HasWay members leads (member_at members place) (member_at members place) (length rest + 1) = record { through = rest; long = refl; among = among; along = along } in
@@ -136,7 +142,8 @@ closes_least members leads place marks tail below settled way = record {
 pub begins_there : (members : List Txn) (leads : Edges) (start : Txn) (cycle : List Txn) → IsCycle members leads start cycle → Contains members start
 begins_there members leads start cycle c = All-head (Contains members) start c.rest (subst (All (Contains members)) c.begins c.among)
 
-pub cycle_way : (members : List Txn) (leads : Edges) (start : Txn) (cycle : List Txn) (c : IsCycle members leads start cycle) → HasWay members leads start start (length c.rest + 1)
+pub cycle_way : (members : List Txn) (leads : Edges) (start : Txn) (cycle : List Txn) (c : IsCycle members leads start cycle) →
+    HasWay members leads start start (length c.rest + 1)
 cycle_way members leads start cycle c = record { through = c.rest; long = refl; among = All-tail (Contains members) start c.rest (subst (All (Contains members)) c.begins c.among); along = c.closed }
 
 -- the place that is found, or none

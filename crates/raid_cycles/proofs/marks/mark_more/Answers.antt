@@ -1,5 +1,5 @@
-use Rattle.std.proofs.Common.{◌≡◌, ◌+◌, true, false, cond, ap, sym, ◌∙◌}
-use Rattle.raid_cycles.proofs.Marking.{Round, ends, round_same, round_passes, round_adds}
+use Rattle.std.proofs.Common.{◌+◌, true, cond, ap, sym, ◌∙◌}
+use Rattle.raid_cycles.proofs.Marking.{ends, round_same, round_passes, round_adds}
 use Rattle.raid_cycles.proofs.marks.mark_more.Goals.{then-marks-k+then-mark_sources, else-marks-k, else-marks-k-via-then-marks-k+else-mark_sources, else-marks-k-via-else-marks-k}
 use Rattle.raid_cycles.proofs.marks.mark_more.Goals as goal
 

@@ -1,7 +1,6 @@
-use Rattle.std.proofs.Common.{◌≡◌, ◌+◌, ◌-◌, List, [], ◌∷◌, ◌++◌, ap, sym, ◌∙◌, subst, refl, arith, append_assoc}
+use Rattle.std.proofs.Common.{◌≡◌, ◌+◌, ◌-◌, [], ◌∷◌, ◌++◌, ap, sym, ◌∙◌, subst, refl, arith, append_assoc}
 use Rattle.std.specs.Prelude.{slice_index}
 use Rattle.std.proofs.lemmas.List.{append-nil}
-use Rattle.raid_base.specs.declared.names.Txn.{Txn}
 use Rattle.raid_cycles.specs.Cycles.{IsLeastCycle}
 use Rattle.raid_cycles.specs.Marks.{member_at, HasWay}
 use Rattle.raid_cycles.proofs.Walking.{IsLeastWay, some_onward, goes_first, at_once, closes_least}

@@ -1,4 +1,4 @@
-use Rattle.std.proofs.Common.{◌≡◌, ℕ, ◌<◌, ◌++◌, List, length}
+use Rattle.std.proofs.Common.{◌≡◌, ◌<◌, ◌++◌, List, length}
 use Rattle.std.specs.Prelude.{slice_index}
 use Rattle.raid_base.specs.declared.names.Txn.{Txn}
 use Rattle.raid_cycles.specs.Cycles.{IsLeastCycle}

@@ -1,5 +1,5 @@
 use Rattle.std.proofs.Common.{◌≡◌, ◌+◌, ◌<◌, length, sym, ◌∙◌, subst, arith}
-use Rattle.std.specs.Prelude.{Contains, slice_index}
+use Rattle.std.specs.Prelude.{slice_index}
 use Rattle.std.proofs.lemmas.List.{get_or_default}
 use Rattle.raid_cycles.specs.Cycles.{IsCycle, IsLeastCycle}
 use Rattle.raid_cycles.specs.Marks.{member_at, HasWay}
