@@ -1,9 +1,11 @@
 -- Marks and ways to the start.
-use Rattle.std.proofs.Common.{◌≡◌, ℕ, ◌+◌, ◌<◌, ◌≤◌, ◌⊎◌, inl, inr, Bool, true, false, ◌&&◌, ◌==◌, cond, List, [], ◌∷◌, map, length, get_or, arith, sym, ◌∙◌, ap, subst, refl, All}
+use Rattle.std.proofs.Common.{◌≡◌, ℕ, ◌+◌, ◌<◌, ◌≤◌, ◌⊎◌, inl, inr, Bool, true, false, ◌&&◌, ◌==◌, cond, List, [], ◌∷◌, map, length, get_or, set, arith, sym, ◌∙◌, ap, subst, refl, All}
 use Rattle.std.specs.Prelude.{Contains, count_by, slice_index}
+use Rattle.std.specs.List.{sum_by}
 use Rattle.std.proofs.lemmas.Bool.{true≢false, and_parts, and_from, cases_Bool, eqb-true, cases_eq, cases_lt, cond-true, cond-false, and_left, ne_eqb, eq-eqb}
-use Rattle.std.proofs.lemmas.List.{get_or-map, get_or_default, length-map}
+use Rattle.std.proofs.lemmas.List.{get_or-set_same, get_or-set_other, length-set, get_or-map, get_or_default, length-map}
 use Rattle.std.proofs.lemmas.List.Elements.{All-nil, All-cons, All-head, All-tail, Contains-get_or}
+use Rattle.std.proofs.lemmas.List.Sums.{sum_by-set}
 use Rattle.raid_base.specs.declared.names.Txn.{Txn}
 use Rattle.raid_cycles.specs.Cycles.{Edges, leads_along}
 use Rattle.raid_cycles.specs.Marks.{member_at, HasWay, AreMarked, AreSettled}
@@ -192,6 +194,57 @@ module _ (members : List Txn) (leads : Edges) (start : Txn) where
       let r : 0 < slice_index marks c.0 = all_marked most marks m n rest c.0 c.1 (All-tail (Contains members) next rest among) (subst (λ z. leads_along leads z rest start ≡ true) same q.1) in
       let w = m.within c.0 c.1 in
       (n.fewest k (slice_index marks c.0 + 1) below (omega (arith, w)) (longer (member_at members k) c.0 (slice_index marks c.0) c.1 (subst (λ z. leads (member_at members k) z ≡ true) same q.0) (m.has_way c.0 c.1 r))).0
+
+-- how a look stands that has passed the first members: those without a mark that pass the test have the mark
+pub record Scan (test : ℕ → Bool) (mark : ℕ) (before : List ℕ) (places : ℕ) (marks : List ℕ) (found : Bool) : Type 0 where
+  pub long : length marks ≡ length before
+  pub done : (k : ℕ) → k < places → slice_index marks k ≡ cond (slice_index before k == 0 && test k) mark (slice_index before k)
+  pub left : (k : ℕ) → places ≤ k → slice_index marks k ≡ slice_index before k
+  pub none : found ≡ false → marks ≡ before
+  pub fewer : count_by (λ m. m == 0) marks + cond found 1 0 ≤ count_by (λ m. m == 0) before
+
+pub scan_same : (test : ℕ → Bool) (mark : ℕ) (before : List ℕ) (places : ℕ) (marks ms : List ℕ) (found f : Bool) → ms ≡ marks → f ≡ found →
+    Scan test mark before places marks found → Scan test mark before places ms f
+scan_same test mark before places marks ms found f e i r = subst (λ z. Scan test mark before places z f) (sym e) (subst (λ z. Scan test mark before places marks z) (sym i) r)
+
+module _ (test : ℕ → Bool) (mark : ℕ) (before : List ℕ) (places : ℕ) (marks : List ℕ) (found : Bool) (s : Scan test mark before places marks found) where
+  pub scan_leaves : (slice_index marks places == 0 && test places) ≡ false → Scan test mark before (places + 1) marks found
+  scan_leaves e = record {
+    long = s.long;
+    done = λ k less. elim (cases_eq k places) [
+      | inl h ↦
+          let here : slice_index marks k ≡ slice_index before k = s.left k (omega (arith, h)) in
+          here ∙ sym (cond-false (slice_index before k == 0 && test k) mark (slice_index before k) (ap (λ n. n == 0 && test k) (sym here) ∙ ap (λ j. slice_index marks j == 0 && test j) h ∙ e))
+      | inr h ↦ s.done k (omega (arith, less, h))
+    ];
+    left = λ k more. s.left k (omega (arith, more));
+    none = s.none;
+    fewer = s.fewer;
+  }
+
+  pub scan_marks : places < length before → 0 < mark → slice_index marks places ≡ 0 → test places ≡ true → Scan test mark before (places + 1) (set marks places mark) true
+  scan_marks below some bare passed = record {
+    long = length-set marks places mark ∙ s.long;
+    done = λ k less. elim (cases_eq k places) [
+      | inl h ↦
+          let here : slice_index before k ≡ 0 = sym (s.left k (omega (arith, h))) ∙ ap (slice_index marks) h ∙ bare in
+          ap (slice_index (set marks places mark)) h ∙ get_or-set_same marks places mark 0 there
+          ∙ sym (cond-true (slice_index before k == 0 && test k) mark (slice_index before k) (and_from _ _ (eq-eqb (slice_index before k) 0 here) (ap test h ∙ passed)))
+      | inr h ↦ get_or-set_other marks places k mark 0 h ∙ s.done k (omega (arith, less, h))
+    ];
+    left = λ k more. get_or-set_other marks places k mark 0 (λ e. omega (arith, e, more)) ∙ s.left k (omega (arith, more));
+    none = λ e. absurd (true≢false e);
+    fewer =
+        let f : ℕ → ℕ = λ m. cond (m == 0) 1 0 in
+        let sums : sum_by f (set marks places mark) + f (slice_index marks places) ≡ sum_by f marks + f mark = sum_by-set f marks places mark 0 there in
+        let one : f (slice_index marks places) ≡ f 0 = ap f bare in
+        let zero_ : f mark ≡ f 1 = cond-false (mark == 0) 1 0 (ne_eqb mark 0 (λ e. omega (arith, e, some))) in
+        let fewer = s.fewer in
+        omega (arith, sums, one, zero_, fewer);
+  }
+    where
+      there : places < length marks
+      there = let l = s.long in omega (arith, below, l)
 
 -- how a round stands that has looked at the first places
 pub record Round (members : List Txn) (leads : Edges) (most next : ℕ) (before : List ℕ) (places : ℕ) (marks : List ℕ) (found : Bool) : Type 0 where
