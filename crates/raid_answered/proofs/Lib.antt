@@ -1,0 +1,4 @@
+pub mod Counts
+pub mod Frame
+pub mod Sites
+pub mod Turns
