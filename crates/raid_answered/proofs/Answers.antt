@@ -63,6 +63,14 @@ unwaiting p t unwaited = none (waiting p) (all_wait p)
         go : list_any (λ r. is_txn t r.0) rs ≡ false → (is_txn t r.0 || list_any (λ r. is_txn t r.0) rs) ≡ false
         go rest = ap (λ b. b || list_any (λ r. is_txn t r.0) rs) (by r.0 r.1 a.0 (r.0.0 == t.0) refl) ∙ rest
 
+-- An ask of the transaction was answered: it is over, or was granted a read where it asked for one, or made to wait where it asked for its end
+pub record Counted (t : Txn) (m : Message) (p q : List Noted) : Type 0 where
+  pub reads : count_reads q t ≡ count_reads p t + (if asks_item m then 1 else 0)
+  pub waits : count_waits q t ≡ count_waits p t + (if asks_end m then 1 else 0)
+
+abbrev pub IsAnswer : Txn → Message → List Noted → List Noted → Type 0
+IsAnswer t m p q = (has_ended q t ≡ true) ⊎ Counted t m p q
+
 module _ (w : Workload) (t : Txn) where
   pushed : (h : List Entry) (e : Entry) → is_read (λ u x s. is_txn t u) e ≡ false → is_wait_of t e ≡ false → IsAsOften t (noted h) (noted (h ++ e ∷ []))
   pushed h e unread unwaited = subst (IsAsOften t (noted h)) (sym (noted_push h e)) (often_push t (noted h) e unread unwaited)
@@ -102,22 +110,14 @@ module _ (w : Workload) (t : Txn) where
           go : Opens w from letter (opened state) (hear_sequencer w state from letter) → IsAsOften t (noted state.history) (noted (hear_sequencer w state from letter).state.history)
           go (next, (one, chain)) = often_on t (noted state.history) (so_far next) (noted (hear_sequencer w state from letter).state.history) (first_often (opened state) next one) (later_often next (hear_sequencer w state from letter) chain)
 
-  -- An ask was answered: the transaction is over, or was granted a read where it asked for one, or made to wait where it asked for its end
-  pub record Counted (m : Message) (p q : List Noted) : Type 0 where
-    pub reads : count_reads q t ≡ count_reads p t + (if asks_item m then 1 else 0)
-    pub waits : count_waits q t ≡ count_waits p t + (if asks_end m then 1 else 0)
-
-  abbrev pub IsAnswer : Message → List Noted → List Noted → Type 0
-  IsAnswer m p q = (has_ended q t ≡ true) ⊎ Counted m p q
-
-  aborts : (m : Message) (p : List Noted) (ask : ℕ) (turn : Turn Sequencer) (cause : Cause) (act : Act) → IsAnswer m p (so_far (place w ask turn (Abort t cause act)))
+  aborts : (m : Message) (p : List Noted) (ask : ℕ) (turn : Turn Sequencer) (cause : Cause) (act : Act) → IsAnswer t m p (so_far (place w ask turn (Abort t cause act)))
   aborts m p ask turn cause act = inl (ap (λ q. has_ended q t) (noted_push turn.state.history (Abort t cause act)) ∙ any_last (λ n. is_end_of t n.entry) (so_far turn) (next (so_far turn) (Abort t cause act)) (or_right false (is_txn t t) (same_self t.0)))
 
-  commits : (m : Message) (p : List Noted) (ask : ℕ) (turn : Turn Sequencer) (request : Request) (applied : List Site) → IsAnswer m p (so_far (place w ask turn (Commit t request applied)))
+  commits : (m : Message) (p : List Noted) (ask : ℕ) (turn : Turn Sequencer) (request : Request) (applied : List Site) → IsAnswer t m p (so_far (place w ask turn (Commit t request applied)))
   commits m p ask turn request applied = inl (ap (λ q. has_ended q t) (noted_push turn.state.history (Commit t request applied)) ∙ any_last (λ n. is_end_of t n.entry) (so_far turn) (next (so_far turn) (Commit t request applied)) (or_left (is_txn t t) false (same_self t.0)))
 
   -- what is forced ends transactions alone
-  settles : (i : ℕ) (m : Message) (p : List Noted) (turn : Turn Sequencer) → IsAnswer m p (so_far turn) → IsAnswer m p (so_far (settle_from w i turn))
+  settles : (i : ℕ) (m : Message) (p : List Noted) (turn : Turn Sequencer) → IsAnswer t m p (so_far turn) → IsAnswer t m p (so_far (settle_from w i turn))
   settles zero m p turn a = a
   settles (suc i) m p turn a = go (forced w (so_far turn)) refl (λ e. settles i m p (place w 0 turn e))
     where
@@ -129,17 +129,17 @@ module _ (w : Workload) (t : Txn) where
       unwaited (Wait u request) c = absurd c
       unwaited other c = refl
 
-      one : (e : Entry) → Compels w (so_far turn) e → IsAnswer m p (so_far (place w 0 turn e))
+      one : (e : Entry) → Compels w (so_far turn) e → IsAnswer t m p (so_far (place w 0 turn e))
       one e c = elim a [
         | inl over ↦ inl (ap (λ q. has_ended q t) (noted_push turn.state.history e) ∙ any_kept (λ n. is_end_of t n.entry) (so_far turn) (next (so_far turn) e) over)
         | inr counted ↦ inr (let same = pushed turn.state.history e (unread e c) (unwaited e c) in record { reads = same.reads ∙ counted.reads; waits = same.waits ∙ counted.waits })
       ]
 
-      go : (o : Option Entry) → forced w (so_far turn) ≡ o → ((e : Entry) → IsAnswer m p (so_far (place w 0 turn e)) → IsAnswer m p (so_far (settle_from w i (place w 0 turn e)))) → IsAnswer m p (so_far (option_map_or (λ e. settle_from w i (place w 0 turn e)) o turn))
+      go : (o : Option Entry) → forced w (so_far turn) ≡ o → ((e : Entry) → IsAnswer t m p (so_far (place w 0 turn e)) → IsAnswer t m p (so_far (settle_from w i (place w 0 turn e)))) → IsAnswer t m p (so_far (option_map_or (λ e. settle_from w i (place w 0 turn e)) o turn))
       go None q rest = a
       go (Some e) q rest = rest e (one e (forced_compels w (so_far turn) e q))
 
-  finishes : (m : Message) (p : List Noted) (state : Sequencer) (turn : Turn Sequencer) → IsAnswer m p (so_far turn) → IsAnswer m p (so_far (finish w state turn))
+  finishes : (m : Message) (p : List Noted) (state : Sequencer) (turn : Turn Sequencer) → IsAnswer t m p (so_far turn) → IsAnswer t m p (so_far (finish w state turn))
   finishes m p state turn a = settles _ m p turn a
 
   -- the rows of a transaction that may ask
@@ -147,63 +147,63 @@ module _ (w : Workload) (t : Txn) where
     abbrev p : List Noted
     p = noted state.history
 
-    frees : (m : Message) (ask : ℕ) (o : Option Entry) → IsAnswer m (noted state.history) (so_far (place_if w ask (opened state) o)) → IsAnswer m (noted state.history) (so_far (rows.free_row w ask (opened state) t o))
-    frees m ask o a = subst (λ b. IsAnswer m (noted state.history) (so_far (if b then place_if w ask (opened state) o else opened state))) (sym free) a
+    frees : (m : Message) (ask : ℕ) (o : Option Entry) → IsAnswer t m (noted state.history) (so_far (place_if w ask (opened state) o)) → IsAnswer t m (noted state.history) (so_far (rows.free_row w ask (opened state) t o))
+    frees m ask o a = subst (λ b. IsAnswer t m (noted state.history) (so_far (if b then place_if w ask (opened state) o else opened state))) (sym free) a
 
-    granted : (ask : ℕ) (x : Item) (s : Site) → IsAnswer (letters.ReadAsk t ask x) (noted state.history) (so_far (place w ask (opened state) (Read t x s)))
-    granted ask x s = inr (subst (Counted (letters.ReadAsk t ask x) (noted state.history)) (sym (noted_push state.history (Read t x s))) (record {
+    granted : (ask : ℕ) (x : Item) (s : Site) → IsAnswer t (letters.ReadAsk t ask x) (noted state.history) (so_far (place w ask (opened state) (Read t x s)))
+    granted ask x s = inr (subst (Counted t (letters.ReadAsk t ask x) (noted state.history)) (sym (noted_push state.history (Read t x s))) (record {
       reads = count_push (λ n. is_read (λ u x s. is_txn t u) n.entry) p (next p (Read t x s)) true (same_self t.0);
       waits = count_push (λ n. is_wait_of t n.entry) p (next p (Read t x s)) false refl;
     }))
 
-    reading_row : (ask : ℕ) (x : Item) (o : Option Site) (v : Verdict) → IsAnswer (letters.ReadAsk t ask x) (noted state.history) (so_far (place w ask (opened state) (served t x o v)))
+    reading_row : (ask : ℕ) (x : Item) (o : Option Site) (v : Verdict) → IsAnswer t (letters.ReadAsk t ask x) (noted state.history) (so_far (place w ask (opened state) (served t x o v)))
     reading_row ask x None v = aborts (letters.ReadAsk t ask x) p ask (opened state) causes.NoCopy (acts.Read x)
     reading_row ask x (Some s) (verdicts.Reject why) = aborts (letters.ReadAsk t ask x) p ask (opened state) _ (acts.Read x)
     reading_row ask x (Some s) verdicts.Wait = granted ask x s
     reading_row ask x (Some s) verdicts.Grant = granted ask x s
 
-    committing_row : (r : Request) → IsAnswer (letters.CommitAsk t r) (noted state.history) (so_far (place_if w 0 (opened state) (answer_commit w (noted state.history) t r)))
+    committing_row : (r : Request) → IsAnswer t (letters.CommitAsk t r) (noted state.history) (so_far (place_if w 0 (opened state) (answer_commit w (noted state.history) t r)))
     committing_row r = answers (site_refusal w p r)
       where
         message : Message
         message = letters.CommitAsk t r
 
-        made : IsAnswer (letters.CommitAsk t r) (noted state.history) (so_far (place w 0 (opened state) (Wait t r)))
-        made = inr (subst (Counted message p) (sym (noted_push state.history (Wait t r))) (record {
+        made : IsAnswer t (letters.CommitAsk t r) (noted state.history) (so_far (place w 0 (opened state) (Wait t r)))
+        made = inr (subst (Counted t message p) (sym (noted_push state.history (Wait t r))) (record {
           reads = count_push (λ n. is_read (λ u x s. is_txn t u) n.entry) p (next p (Wait t r)) false refl;
           waits = count_push (λ n. is_wait_of t n.entry) p (next p (Wait t r)) true (same_self t.0);
         }))
 
-        waits_so : (a b : Bool) → a ≡ false → IsAnswer (letters.CommitAsk t r) (noted state.history) (so_far (place_if w 0 (opened state) (if a then None else if b then Some (Abort t causes.Deadlock (acts.Commit r)) else Some (Wait t r))))
+        waits_so : (a b : Bool) → a ≡ false → IsAnswer t (letters.CommitAsk t r) (noted state.history) (so_far (place_if w 0 (opened state) (if a then None else if b then Some (Abort t causes.Deadlock (acts.Commit r)) else Some (Wait t r))))
         waits_so true b q = absurd (true≢false q)
         waits_so false true q = aborts message p 0 (opened state) causes.Deadlock (acts.Commit r)
         waits_so false false q = made
 
-        decides : (v : Verdict) → IsAnswer (letters.CommitAsk t r) (noted state.history) (so_far (place_if w 0 (opened state) (decided w (noted state.history) t r v)))
+        decides : (v : Verdict) → IsAnswer t (letters.CommitAsk t r) (noted state.history) (so_far (place_if w 0 (opened state) (decided w (noted state.history) t r v)))
         decides (verdicts.Reject why) = aborts message p 0 (opened state) _ (acts.Commit r)
         decides verdicts.Grant = commits message p 0 (opened state) r _
         decides verdicts.Wait = waits_so (is_waiting p t) (closes_waits w p t r) unwaited
 
-        answers : (o : Option Cause) → IsAnswer (letters.CommitAsk t r) (noted state.history) (so_far (place_if w 0 (opened state) (answered w (noted state.history) t r o)))
+        answers : (o : Option Cause) → IsAnswer t (letters.CommitAsk t r) (noted state.history) (so_far (place_if w 0 (opened state) (answered w (noted state.history) t r o)))
         answers (Some why) = aborts message p 0 (opened state) why (acts.Commit r)
         answers None = decides (verdict w p (writing t (stamp p t) r.writes))
 
     -- whatever it asks in a letter that is heard is answered
     module _ (k : ℕ) (n : ℕ) where
-      asking_row : (m : Message) → IsAskOf t m → IsAnswer m (noted state.history) (so_far (rows.site_row w (opened state) (site (k + 1)) n m))
+      asking_row : (m : Message) → IsAskOf t m → IsAnswer t m (noted state.history) (so_far (rows.site_row w (opened state) (site (k + 1)) n m))
       asking_row (letters.ReadAsk u ask x) h =
-          subst (λ z. IsAnswer (letters.ReadAsk z ask x) p (so_far (rows.read_row w (opened state) z ask x))) (sym (same_txn u t h))
+          subst (λ z. IsAnswer t (letters.ReadAsk z ask x) p (so_far (rows.read_row w (opened state) z ask x))) (sym (same_txn u t h))
           (frees (letters.ReadAsk t ask x) ask (Some (answer_read w p t x)) (reading_row ask x (source_for (sources w p x) (home w t)) (verdict w p (reading t (stamp p t) x))))
       asking_row (letters.CommitAsk u request) h =
-          subst (λ z. IsAnswer (letters.CommitAsk z request) p (so_far (rows.commit_row w (opened state) z request))) (sym (same_txn u t h)) (frees (letters.CommitAsk t request) 0 (answer_commit w p t request) (committing_row request))
+          subst (λ z. IsAnswer t (letters.CommitAsk z request) p (so_far (rows.commit_row w (opened state) z request))) (sym (same_txn u t h)) (frees (letters.CommitAsk t request) 0 (answer_commit w p t request) (committing_row request))
       asking_row (letters.EndAsk u cause told) h =
-          subst (λ z. IsAnswer (letters.EndAsk z cause told) p (so_far (rows.end_row w (opened state) z cause told))) (sym (same_txn u t h))
+          subst (λ z. IsAnswer t (letters.EndAsk z cause told) p (so_far (rows.end_row w (opened state) z cause told))) (sym (same_txn u t h))
           (frees (letters.EndAsk t cause told) 0 (Some (Abort t cause (acts.Ended told))) (aborts (letters.EndAsk t cause told) p 0 (opened state) cause (acts.Ended told)))
       asking_row other h = absurd h
 
     pub ask_answered : (k : ℕ) (letter : Letter) → IsAskOf t letter.message → (letter.from == session (vector w (noted state.history)) (site (k + 1))) ≡ true → is_to_sequencer w letter.message ≡ true →
-        IsAnswer letter.message (noted state.history) (noted (hear_sequencer w state (suc (suc k)) letter).state.history)
+        IsAnswer t letter.message (noted state.history) (noted (hear_sequencer w state (suc (suc k)) letter).state.history)
     ask_answered k letter h present fits =
-        subst (λ b. IsAnswer letter.message p (so_far (if b then finish w state (rows.site_row w (opened state) (site (k + 1)) letter.from letter.message) else opened state)))
+        subst (λ b. IsAnswer t letter.message p (so_far (if b then finish w state (rows.site_row w (opened state) (site (k + 1)) letter.from letter.message) else opened state)))
         (sym (and_from (is_hello letter.message || letter.from == session (vector w p) (site (k + 1))) (is_to_sequencer w letter.message) (or_right (is_hello letter.message) (letter.from == session (vector w p) (site (k + 1))) present) fits))
         (finishes letter.message p state (rows.site_row w (opened state) (site (k + 1)) letter.from letter.message) (asking_row k letter.from letter.message h))

@@ -13,6 +13,7 @@ ghost use Rattle.raid_answered.specs.Answered.{AsksAreAnswered};
 /// Whatever steps were taken: at a site that is up in its last session told, of each program whose transaction isn't over and which has no ask on
 /// its way, the last ask was answered. Who asked for an item was granted as many reads as it has asked for; and who asked for its end waits.
 
+#[tactic(auto, using(crate::proofs::Runs::runs_answer))]
 pub fn asks_are_answered()
     ensures { (w : Workload) (schedule : List Pick) → AsksAreAnswered w (run w schedule) }
 {}
