@@ -190,27 +190,27 @@ module _ (w : Workload) where
     after = link (moved links 1 from 0 clock rest (hear_sequencer w s.sequencer from letter).outs) 1 (k + 2)
 
     abbrev Now : Type 0
-    Now = Books (noted (hear_sequencer w s.sequencer from letter).state.history) t (asks_of t (link (moved links 1 from 0 clock rest (hear_sequencer w s.sequencer from letter).outs) 1 (k + 2))) (running_of state t)
+    Now = Books q t (asks_of t after) (running_of state t)
 
     -- where none runs, nothing is asked for it
     none_runs : running_of state t ≡ None → Now
     none_runs f = (let talks = is.talks.1 k state at up last t in subst (Books q t (asks_of t after)) (sym f) (subst (Talks q (moved links 1 from 0 clock rest (hear_sequencer w s.sequencer from letter).outs) k state.session t (asks_of t after)) f talks))
 
     -- a session was told just now: nobody runs there, and nothing has begun
-    module _ (differ : last_session (noted s.sequencer.history) (site (k + 1)) ≢ state.session) where
+    module _ (differ : last_session p (site (k + 1)) ≢ state.session) where
       data Still : Type 0 where
-        still : state.running ≡ [] → begins state.session (link links 1 (k + 2)) ≡ [] → Still
+        still : state.running ≡ [] → begins state.session asks ≡ [] → Still
 
       it_is : Still
       it_is = go (was.landed.waits k state at).stage
         where
-          go : Stage w k (noted s.sequencer.history) state.up state.session state.running state.next (begins state.session (link links 1 (k + 2))) (link links (k + 2) 1) → Still
+          go : Stage w k p state.up state.session state.running state.next (begins state.session asks) (link links (k + 2) 1) → Still
           go (stopped d r z) = absurd (true≢false (sym up ∙ d))
           go (asleep u l r z b) = still r b
           go (cares.fresh u l r z b e) = absurd (differ l)
           go (awake u l f c) = absurd (differ l)
 
-      new_now : Now × BeginsFirst state.session t (link (moved links 1 from 0 clock rest (hear_sequencer w s.sequencer from letter).outs) 1 (k + 2))
+      new_now : Now × BeginsFirst state.session t after
       new_now = go it_is
         where
           go : Still → Now × BeginsFirst state.session t after
@@ -221,21 +221,21 @@ module _ (w : Workload) where
               unbegun (took of first) = behind_none state.session t letter after (ap (λ ls. has_txn (begins state.session ls) t) (sym first) ∙ ap (λ ts. has_txn ts t) none)
 
     -- who is over stays so
-    grows : has_ended (noted s.sequencer.history) t ≡ true → has_ended (noted (hear_sequencer w s.sequencer from letter).state.history) t ≡ true
+    grows : has_ended p t ≡ true → has_ended q t ≡ true
     grows over = go (hear_opens w from letter s.sequencer from refl)
       where
-        go : Opens w from letter (opened s.sequencer) (hear_sequencer w s.sequencer from letter) → has_ended (noted (hear_sequencer w s.sequencer from letter).state.history) t ≡ true
+        go : Opens w from letter (opened s.sequencer) (hear_sequencer w s.sequencer from letter) → has_ended q t ≡ true
         go (next, (one, chain)) =
             let starts = (firsts w from clock letter (opened s.sequencer) next one).1.1.0 in
             let settled = (chain_settled w from letter next (hear_sequencer w s.sequencer from letter) chain).1.1 in
             settled.grows (λ n. is_end_of t n.entry) (starts.grows (λ n. is_end_of t n.entry) over)
 
     -- the session was told before, and a program of the transaction runs there
-    module _ (before : last_session (noted s.sequencer.history) (site (k + 1)) ≡ state.session) (r : Running) (f : running_of state t ≡ Some r) (first : BeginsFirst state.session t (link links 1 (k + 2))) where
+    module _ (before : last_session p (site (k + 1)) ≡ state.session) (r : Running) (f : running_of state t ≡ Some r) (first : BeginsFirst state.session t asks) where
       abbrev world : World
       world = record { servers = s; links = links; clocks = []; journals = [] }
 
-      fine : FineAt w (site (k + 1)) (noted s.sequencer.history) (begins state.session (link links 1 (k + 2))) t
+      fine : FineAt w (site (k + 1)) p (begins state.session asks) t
       fine = fine_at s links was.landed k state at t r f
 
       -- an ask of it comes from there
@@ -249,14 +249,14 @@ module _ (w : Workload) where
           numbers h a b = (let x = eqb-true h (j + 1) a in let y = eqb-true h (k + 1) b in omega (arith, x, y))
 
       -- none is taken
-      unasked : (asks_of t (link (moved links 1 from 0 clock rest (hear_sequencer w s.sequencer from letter).outs) 1 (k + 2)) ≡ asks_of t (link links 1 (k + 2))) → ((j : ℕ) → from ≡ j + 2 → IsAskOf t letter.message → ⊥) →
-          Balance (noted s.sequencer.history) t (asks_of t (link links 1 (k + 2))) r.asks (ends_asked r.phase) → Balance (noted (hear_sequencer w s.sequencer from letter).state.history) t (asks_of t (link (moved links 1 from 0 clock rest (hear_sequencer w s.sequencer from letter).outs) 1 (k + 2))) r.asks (ends_asked r.phase)
+      unasked : (asks_of t after ≡ asks_of t asks) → ((j : ℕ) → from ≡ j + 2 → IsAskOf t letter.message → ⊥) →
+          Balance p t (asks_of t asks) r.asks (ends_asked r.phase) → Balance q t (asks_of t after) r.asks (ends_asked r.phase)
       unasked same none b = subst (λ ms. Balance q t ms r.asks (ends_asked r.phase)) (sym same) (often_balance p q t (asks_of t asks) r.asks (ends_asked r.phase) (unasked_often w t from letter none s.sequencer) b)
 
       -- the first is taken
-      module _ (of : from ≡ k + 2) (took_it : link links 1 (k + 2) ≡ letter ∷ link (moved links 1 from 0 clock rest (hear_sequencer w s.sequencer from letter).outs) 1 (k + 2)) (h : IsAskOf t letter.message)
-          (queue : asks_of t (link links 1 (k + 2)) ≡ letter.message ∷ asks_of t (link (moved links 1 from 0 clock rest (hear_sequencer w s.sequencer from letter).outs) 1 (k + 2))) where
-        begun : has_begun (noted s.sequencer.history) t ≡ true
+      module _ (of : from ≡ k + 2) (took_it : asks ≡ letter ∷ after) (h : IsAskOf t letter.message)
+          (queue : asks_of t asks ≡ letter.message ∷ asks_of t after) where
+        begun : has_begun p t ≡ true
         begun = go (has_begun p t) refl
           where
             head : (ask_of t letter.message ≡ []) ⊎ (has_txn (begins state.session after) t ≡ false)
@@ -277,7 +277,7 @@ module _ (w : Workload) where
             go true e = refl
             go false e = absurd (true≢false (sym (fine.1 ∙ ap not e) ∙ never))
 
-        present : (letter.from == session (vector w (noted s.sequencer.history)) (site (k + 1))) ≡ true
+        present : (letter.from == session (vector w p) (site (k + 1))) ≡ true
         present =
             subst (λ n. (letter.from == n) ≡ true)
             (agreed.front_asked w world was.landed.holds k state at letter after took_it ∙ ap (λ b. if b then last_session p (site (k + 1)) + 1 else last_session p (site (k + 1))) (no_hello t letter.message h) ∙ before ∙ sym (agreed.told_up w world was.landed.holds k state at up before)) (same_self letter.from)
@@ -285,21 +285,21 @@ module _ (w : Workload) where
         fits : is_to_sequencer w letter.message ≡ true
         fits = ask_fits w t letter.message h (subst (AllByRecursion (λ (l : Letter). AskFits w l.message)) took_it (was.fit k)).0
 
-        unwaited : has_ended (noted s.sequencer.history) t ≡ false → Balance (noted s.sequencer.history) t (asks_of t (link links 1 (k + 2))) r.asks (ends_asked r.phase) → has_waited (noted s.sequencer.history) t ≡ false
+        unwaited : has_ended p t ≡ false → Balance p t (asks_of t asks) r.asks (ends_asked r.phase) → has_waited p t ≡ false
         unwaited unended b = elim (subst (Talks p links k state.session t (asks_of t asks)) f (was.talks.1 k state at up before t)).1 [
           | inl over ↦ absurd (true≢false (sym over ∙ unended))
           | inr about ↦ asks_unwaited p links k state.session t r.asks r.answers letter.message (asks_of t after) r.phase (subst (λ ms. IsAbout p links k state.session t r.asks r.answers ms r.phase) queue about) (subst (λ ms. Balance p t ms r.asks (ends_asked r.phase)) queue b)
         ]
 
-        answers : has_ended (noted s.sequencer.history) t ≡ false → has_waited (noted s.sequencer.history) t ≡ false → IsAnswer t letter.message (noted s.sequencer.history) (noted (hear_sequencer w s.sequencer from letter).state.history)
+        answers : has_ended p t ≡ false → has_waited p t ≡ false → IsAnswer t letter.message p q
         answers unended never =
             let waits = unwaiting p t never in
             let free : is_free p t ≡ true = and_from (is_running p t) (not (is_waiting p t)) (and_from (has_begun p t) (not (has_ended p t)) begun (ap not unended)) (ap not waits) in
             let two : suc (suc k) ≡ from = omega (arith, of) in
             subst (λ n. IsAnswer t letter.message p (noted (hear_sequencer w s.sequencer n letter).state.history)) two (ask_answered w t s.sequencer free waits k letter h present fits)
 
-        taken_books : Balance (noted s.sequencer.history) t (asks_of t (link links 1 (k + 2))) r.asks (ends_asked r.phase) →
-            (has_ended (noted (hear_sequencer w s.sequencer from letter).state.history) t ≡ true) ⊎ Balance (noted (hear_sequencer w s.sequencer from letter).state.history) t (asks_of t (link (moved links 1 from 0 clock rest (hear_sequencer w s.sequencer from letter).outs) 1 (k + 2))) r.asks (ends_asked r.phase)
+        taken_books : Balance p t (asks_of t asks) r.asks (ends_asked r.phase) →
+            (has_ended q t ≡ true) ⊎ Balance q t (asks_of t after) r.asks (ends_asked r.phase)
         taken_books b = go (has_ended p t) refl
           where
             go : (c : Bool) → has_ended p t ≡ c → (has_ended q t ≡ true) ⊎ Balance q t (asks_of t after) r.asks (ends_asked r.phase)
@@ -309,8 +309,8 @@ module _ (w : Workload) where
               | inr counted ↦ inr (answered_balance p q t letter.message (asks_of t after) r.asks (ends_asked r.phase) counted (subst (λ ms. Balance p t ms r.asks (ends_asked r.phase)) queue b))
             ]
 
-      balance_after : Balance (noted s.sequencer.history) t (asks_of t (link links 1 (k + 2))) r.asks (ends_asked r.phase) →
-          (has_ended (noted (hear_sequencer w s.sequencer from letter).state.history) t ≡ true) ⊎ Balance (noted (hear_sequencer w s.sequencer from letter).state.history) t (asks_of t (link (moved links 1 from 0 clock rest (hear_sequencer w s.sequencer from letter).outs) 1 (k + 2))) r.asks (ends_asked r.phase)
+      balance_after : Balance p t (asks_of t asks) r.asks (ends_asked r.phase) →
+          (has_ended q t ≡ true) ⊎ Balance q t (asks_of t after) r.asks (ends_asked r.phase)
       balance_after b = go asked
         where
           Result : Type 0
@@ -324,8 +324,8 @@ module _ (w : Workload) where
           go (left other same) = inr (unasked (ap (asks_of t) same) (λ j of h. other (of ∙ ap (λ n. n + 2) (comes j of h))) b)
           go (took of first) = by of first (asks_for t letter.message) (ap (asks_of t) first)
 
-    old_now : last_session (noted s.sequencer.history) (site (k + 1)) ≡ state.session → Books (noted s.sequencer.history) t (asks_of t (link links 1 (k + 2))) (running_of state t) × BeginsFirst state.session t (link links 1 (k + 2)) →
-        Now × BeginsFirst state.session t (link (moved links 1 from 0 clock rest (hear_sequencer w s.sequencer from letter).outs) 1 (k + 2))
+    old_now : last_session p (site (k + 1)) ≡ state.session → Books p t (asks_of t asks) (running_of state t) × BeginsFirst state.session t asks →
+        Now × BeginsFirst state.session t after
     old_now before kept = (books (running_of state t) refl, later asked)
       where
         books : (o : Option Running) → running_of state t ≡ o → Now

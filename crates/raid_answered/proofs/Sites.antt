@@ -41,12 +41,9 @@ use Rattle.raid_layers.proofs.Turns.{asked_by, line_new, asked_more, asked_same}
 use Rattle.raid_answered.proofs.Counts.{ends_asked, Balance, fresh_balance, item_more, end_more}
 use Rattle.raid_answered.proofs.Turns.{none_first, AreMute, mute_none, mute_one, mute_prepared, Books, asked, IsBegun, Kept, further, kept_sends, kept_puts, kept_ends}
 
--- what asks for one transaction alone
-one_else : (message : Message) (b : Bool) → b ≡ false → ((if b then message ∷ [] else []) ++ []) ≡ []
-one_else message b q = ap (λ c. (if c then message ∷ [] else []) ++ []) q
-
-one_own : (message : Message) (b : Bool) → b ≡ true → ((if b then message ∷ [] else []) ++ []) ≡ message ∷ []
-one_own message b q = ap (λ c. (if c then message ∷ [] else []) ++ []) q
+-- what asks for one transaction, where it is known whether it is this one
+known_asked : (message : Message) (b c : Bool) → b ≡ c → (if b then message ∷ [] else []) ++ [] ≡ (if c then message ∷ [] else []) ++ []
+known_asked message b c q = ap (λ d. (if d then message ∷ [] else []) ++ []) q
 
 module _ (w : Workload) (p : List Noted) (k : ℕ) (state : SiteState) (from clock : ℕ) (letter : Letter) (bs : List Txn) (asks : List Letter) (whole : IsWhole p) (note : from ≡ 1 → NoteSays w p (site (k + 1)) letter.to letter.message) (not_monitor : from ≡ 0 → ⊥) where
   abbrev m : ℕ
@@ -67,11 +64,11 @@ module _ (w : Workload) (p : List Noted) (k : ℕ) (state : SiteState) (from clo
       ((t : Txn) → ask_of t message ≡ (if is_txn t r.txn then message ∷ [] else [])) → told ((1, 0, message) ∷ []) ≡ [] →
       (Balance p r.txn (now_asked r.txn turn.outs) r.asks 0 → Balance p r.txn (now_asked r.txn turn.outs ++ message ∷ []) now.asks (ends_asked now.phase)) → IsBegun p m clock asks bs r.txn turn.outs → IsReady turn r → K turn → K after
   asks_more turn after r now message its put more asked_of quiet balance known ready kept =
-      kept_puts p m clock asks bs turn after now ((1, 0, message) ∷ []) put more quiet (λ t d. ap (λ ms. ms ++ []) (asked_of t) ∙ one_else message (is_txn t r.txn) (subst (λ u. (u.0 == t.0) ≡ false) its d))
+      kept_puts p m clock asks bs turn after now ((1, 0, message) ∷ []) put more quiet (λ t d. ap (λ ms. ms ++ []) (asked_of t) ∙ known_asked message (is_txn t r.txn) false (subst (λ u. (u.0 == t.0) ≡ false) its d))
       (subst (λ u. Books p u (now_asked u (turn.outs ++ (1, 0, message) ∷ [])) (Some now)) (sym its) (books ready)) (subst (λ u. IsBegun p m clock asks bs u turn.outs) (sym its) known) kept
     where
       own : now_asked r.txn (turn.outs ++ (1, 0, message) ∷ []) ≡ now_asked r.txn turn.outs ++ message ∷ []
-      own = asked_more p [] 0 m asks bs r.txn turn.outs ((1, 0, message) ∷ []) ∙ ap (λ ms. now_asked r.txn turn.outs ++ (ms ++ [])) (asked_of r.txn) ∙ ap (λ ms. now_asked r.txn turn.outs ++ ms) (one_own message (is_txn r.txn r.txn) (same_self r.txn.0))
+      own = asked_more p [] 0 m asks bs r.txn turn.outs ((1, 0, message) ∷ []) ∙ ap (λ ms. now_asked r.txn turn.outs ++ (ms ++ [])) (asked_of r.txn) ∙ ap (λ ms. now_asked r.txn turn.outs ++ ms) (known_asked message (is_txn r.txn r.txn) true (same_self r.txn.0))
 
       books : IsReady turn r → (has_ended p r.txn ≡ true) ⊎ Balance p r.txn (now_asked r.txn (turn.outs ++ (1, 0, message) ∷ [])) now.asks (ends_asked now.phase)
       books (inl over) = inl over

@@ -18,8 +18,8 @@ IsAnswered p t (asking ask x q) = count_reads p t ≡ ask
 IsAnswered p t (preparing reads writes awaited) = ⊤
 IsAnswered p t sent = is_waiting p t ≡ true
 
--- so it is with each program at an awake site whose transaction isn't over, and of which no ask is on
--- its way
+-- so it is with each program at an awake site whose transaction isn't over, and of which no ask is
+-- on its way
 abbrev pub AsksAreAnswered : Workload → World → Type 0
 AsksAreAnswered w state =
     let p = noted state.servers.sequencer.history in
