@@ -1,5 +1,5 @@
 -- How often a transaction was granted a read and made to wait, and how often it asks for either.
-use Rattle.std.proofs.Common.{◌≡◌, inl, inr, ℕ, zero, suc, ◌+◌, nat_lt, Bool, true, false, not, ◌||◌, List, [], ◌∷◌, ◌++◌, if◌then◌else◌, arith, sym, subst, ap, ◌∙◌, refl}
+use Rattle.std.proofs.Common.{◌≡◌, ℕ, ◌+◌, nat_lt, Bool, true, false, not, ◌||◌, List, [], ◌∷◌, ◌++◌, if◌then◌else◌, arith, sym, subst, ap, ◌∙◌, refl}
 use Rattle.std.specs.Prelude.{count_by, filter, filter_map}
 use Rattle.std.specs.List.{list_any, cons_option}
 use Rattle.std.proofs.lemmas.Bool.{and_from, true≢false}
@@ -13,13 +13,13 @@ use Rattle.raid_base.specs.declared.entry.Entry.TheVariants.{Read, Wait}
 use Rattle.raid_base.specs.declared.entry.Noted.{Noted}
 use Rattle.raid_base.specs.Names.{is_txn}
 use Rattle.raid_rules.specs.Entries.{is_read, wait_of}
-use Rattle.raid_rules.specs.History.{add, next, has_begun, has_ended, is_running, waiting, is_waiting}
+use Rattle.raid_rules.specs.History.{add, next, has_begun, has_ended, is_running, is_waiting}
 use Rattle.raid_rules.specs.Order.{is_of, IsWhole}
 use Rattle.raid_rules.proofs.Push.{same_txn}
 use Rattle.raid_faillock.proofs.Cells.{any_counted}
 use Rattle.raid_message.specs.declared.letter.Message.{Message}
 use Rattle.raid_message.specs.declared.letter.Message.TheVariants as letters
-use Rattle.raid_steps.specs.State.{Phase, asking, preparing, sent}
+use Rattle.raid_steps.specs.State.{Phase, sent}
 use Rattle.raid_asks.proofs.Facts.{any_weaken}
 use Rattle.raid_layers.specs.Asks.{is_wait_of, has_waited, asks_end}
 use Rattle.raid_layers.proofs.Histories.{fresh_unwaited}

@@ -1,11 +1,11 @@
 -- In every run, what programs have asked was answered or is on its way.
-use Rattle.std.proofs.Common.{◌≡◌, ◌≢◌, ◌⊎◌, inl, inr, ℕ, suc, ◌+◌, ◌-◌, ◌<◌, ◌==◌, nat_lt, Bool, true, false, not, List, [], ◌∷◌, ◌++◌, Option, Some, None, if◌then◌else◌, arith, sym, subst, ap, ◌∙◌, refl, append-nil}
-use Rattle.std.specs.Prelude.{count_by, slice_get, slice_set}
+use Rattle.std.proofs.Common.{◌≡◌, ◌≢◌, ◌⊎◌, inl, inr, ℕ, suc, ◌+◌, ◌-◌, ◌<◌, ◌==◌, Bool, true, false, not, List, [], ◌∷◌, ◌++◌, Option, Some, None, if◌then◌else◌, arith, sym, subst, ap, ◌∙◌, refl, append-nil}
+use Rattle.std.specs.Prelude.{count_by, slice_get}
 use Rattle.std.specs.List.{AllByRecursion}
 use Rattle.std.proofs.lemmas.Bool.{and_from, true≢false, eqb-true}
 use Rattle.raid_base.specs.declared.names.Txn.{Txn}
 use Rattle.raid_base.specs.declared.entry.Noted.{Noted}
-use Rattle.raid_base.specs.Names.{is_txn, is_site, has_txn}
+use Rattle.raid_base.specs.Names.{is_txn, has_txn}
 use Rattle.raid_base.specs.Sites.{session, site}
 use Rattle.raid_workload.specs.declared.workload.Workload.{Workload}
 use Rattle.raid_workload.specs.Parts.{home}
@@ -18,7 +18,7 @@ use Rattle.raid_message.specs.declared.letter.Message.{Message}
 use Rattle.raid_message.specs.declared.letter.Message.TheVariants as letters
 use Rattle.raid_message.specs.declared.letter.Letter.{Letter}
 use Rattle.raid_message.specs.declared.letter.Pick.{Pick}
-use Rattle.raid_steps.specs.State.{Turn, Sequencer, opened, Phase, asking, preparing, sent, Running, SiteState}
+use Rattle.raid_steps.specs.State.{Turn, opened, Phase, asking, preparing, sent, Running, SiteState}
 use Rattle.raid_steps.specs.Fits.{is_to_sequencer}
 use Rattle.raid_steps.specs.Programs.{running_of}
 use Rattle.raid_steps.specs.Sequencer.{is_hello, hear_sequencer}
@@ -26,7 +26,7 @@ use Rattle.raid_steps.specs.Site.{hear_site}
 use Rattle.raid_steps.specs.World.{World, Servers, link, run}
 use Rattle.raid_placed.proofs.Orderly.{placed_whole}
 use Rattle.raid_sessions.proofs.Agreed as agreed
-use Rattle.raid_sessions.proofs.Lists.{get_below, get_set, same_self}
+use Rattle.raid_sessions.proofs.Lists.{same_self}
 use Rattle.raid_sessions.proofs.Mail.{same_or_not, letters_to, moved}
 use Rattle.raid_sessions.proofs.Reached.{from_below}
 use Rattle.raid_moves.proofs.Places.{all_found, found_txn, program_of}
@@ -49,10 +49,9 @@ use Rattle.raid_layers.proofs.Tokens.{IsAskOf, AsksFor, asks_not, asks_it, asks_
 use Rattle.raid_layers.proofs.Turns.{IsKnown}
 use Rattle.raid_layers.proofs.Worlds.{Landed}
 use Rattle.raid_witness.specs.Fit.{AskFits}
-use Rattle.raid_witness.specs.Ended.{count_reads}
 use Rattle.raid_answered.specs.Answered.{IsAnswered, AsksAreAnswered}
 use Rattle.raid_answered.proofs.Answers.{Counted, IsAnswer, unwaiting, unasked_often, ask_answered}
-use Rattle.raid_answered.proofs.Counts.{count_cons, count_waits, waits_counted, IsAsOften, asks_item, ends_asked, Balance, waited_waits}
+use Rattle.raid_answered.proofs.Counts.{count_cons, waits_counted, IsAsOften, asks_item, ends_asked, Balance, waited_waits}
 use Rattle.raid_answered.proofs.Frame.{Found, found, Asked, left, took, Each, AtSequencer, AtSite, in_runs}
 use Rattle.raid_answered.proofs.Sites.{step_kept}
 use Rattle.raid_answered.proofs.Turns.{BeginsFirst, behind_none, none_first, Books, Kept, asked_is}

@@ -1,5 +1,5 @@
 -- A step of a site keeps it that each ask of its programs was answered or is on its way, and that Begins are sent before asks.
-use Rattle.std.proofs.Common.{◌≡◌, ◌⊎◌, inl, inr, ℕ, ℤ, ◌+◌, ◌==◌, Bool, true, false, not, ◌||◌, List, [], ◌∷◌, ◌++◌, map, Option, Some, None, if◌then◌else◌, sym, subst, ap, ◌∙◌, refl, append-nil, append_assoc}
+use Rattle.std.proofs.Common.{◌≡◌, ◌⊎◌, inl, inr, ℕ, ◌+◌, ◌==◌, Bool, true, false, ◌||◌, List, [], ◌∷◌, ◌++◌, map, Option, Some, None, if◌then◌else◌, sym, subst, ap, ◌∙◌, refl, append-nil, append_assoc}
 use Rattle.std.proofs.lemmas.Bool.{true≢false}
 use Rattle.std.proofs.lemmas.List.Folds.{list_any-append}
 use Rattle.raid_base.specs.declared.names.Txn.{Txn}
@@ -11,7 +11,7 @@ use Rattle.raid_base.specs.declared.entry.Cause.{Cause}
 use Rattle.raid_base.specs.declared.entry.Cause.TheVariants as causes
 use Rattle.raid_base.specs.declared.entry.Noted.{Noted}
 use Rattle.raid_base.specs.Names.{is_txn, has_txn}
-use Rattle.raid_base.specs.Sites.{session, site}
+use Rattle.raid_base.specs.Sites.{site}
 use Rattle.raid_program.specs.Run.{put}
 use Rattle.raid_workload.specs.declared.workload.Workload.{Workload}
 use Rattle.raid_rules.specs.Entries.{is_commit_of, is_abort_of, is_end_of}
@@ -22,7 +22,7 @@ use Rattle.raid_legal.specs.Seen.{holds_some}
 use Rattle.raid_message.specs.declared.letter.Message.{Message}
 use Rattle.raid_message.specs.declared.letter.Message.TheVariants as letters
 use Rattle.raid_message.specs.declared.letter.Letter.{Letter}
-use Rattle.raid_steps.specs.State.{Out, Turn, opened, send, tell, Phase, asking, preparing, sent, Running, SiteState}
+use Rattle.raid_steps.specs.State.{Out, Turn, opened, tell, Phase, asking, preparing, sent, Running, SiteState}
 use Rattle.raid_steps.specs.Copies.{stage}
 use Rattle.raid_steps.specs.Programs as programs
 use Rattle.raid_steps.specs.Programs.{put_running, running_of, prepare_out, voters}
@@ -34,12 +34,12 @@ use Rattle.raid_asks.proofs.Facts.{or_left, or_right, any_weaken}
 use Rattle.raid_asks.proofs.Line.{Line}
 use Rattle.raid_asks.proofs.Programs.{told, told_append}
 use Rattle.raid_letters.specs.Says.{NoteSays}
-use Rattle.raid_layers.specs.Asks.{ask_of, asks_end}
+use Rattle.raid_layers.specs.Asks.{ask_of}
 use Rattle.raid_layers.proofs.AtSite.{goes_extends, moves_extend}
 use Rattle.raid_layers.proofs.Histories.{fresh_unended, committed_ended}
-use Rattle.raid_layers.proofs.Turns.{asked_by, line_new, asked_more, asked_same}
+use Rattle.raid_layers.proofs.Turns.{line_new, asked_more, asked_same}
 use Rattle.raid_answered.proofs.Counts.{ends_asked, Balance, fresh_balance, item_more, end_more}
-use Rattle.raid_answered.proofs.Turns.{none_first, AreMute, mute_none, mute_one, mute_prepared, Books, asked, IsBegun, Kept, further, kept_sends, kept_puts, kept_ends}
+use Rattle.raid_answered.proofs.Turns.{AreMute, mute_none, mute_one, mute_prepared, Books, asked, IsBegun, Kept, further, kept_sends, kept_puts, kept_ends}
 
 -- what asks for one transaction, where it is known whether it is this one
 known_asked : (message : Message) (b c : Bool) → b ≡ c → (if b then message ∷ [] else []) ++ [] ≡ (if c then message ∷ [] else []) ++ []

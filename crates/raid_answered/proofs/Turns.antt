@@ -1,6 +1,6 @@
 -- What the asks of the programs at a home come to in a turn, given what is on its way from before the step; and how it changes where one
 -- program is put.
-use Rattle.std.proofs.Common.{◌≡◌, ◌⊎◌, inl, inr, ℕ, ℤ, ◌+◌, ◌==◌, Bool, true, false, not, ◌||◌, List, [], ◌∷◌, ◌++◌, map, filter, Option, Some, None, if◌then◌else◌, sym, subst, ap, ◌∙◌, refl, append-nil, append_assoc}
+use Rattle.std.proofs.Common.{◌≡◌, ◌⊎◌, inl, inr, ℕ, ℤ, ◌+◌, ◌==◌, Bool, true, false, not, ◌||◌, List, [], ◌∷◌, ◌++◌, map, filter, Option, Some, None, if◌then◌else◌, sym, subst, ap, ◌∙◌, refl, append_assoc}
 use Rattle.std.specs.Prelude.{⊤}
 use Rattle.std.proofs.lemmas.Bool.{true≢false}
 use Rattle.std.proofs.lemmas.List.Folds.{list_any-append}
@@ -13,7 +13,6 @@ use Rattle.raid_workload.specs.declared.workload.Workload.{Workload}
 use Rattle.raid_rules.specs.History.{has_ended}
 use Rattle.raid_rules.proofs.Push.{same_txn}
 use Rattle.raid_message.specs.declared.letter.Message.{Message}
-use Rattle.raid_message.specs.declared.letter.Message.TheVariants as letters
 use Rattle.raid_message.specs.declared.letter.Letter.{Letter}
 use Rattle.raid_steps.specs.State.{Out, Turn, Running, SiteState}
 use Rattle.raid_steps.specs.Programs.{put_running, running_of, prepare_out}
@@ -21,12 +20,11 @@ use Rattle.raid_sessions.proofs.Mail.{letters_to}
 use Rattle.raid_moves.proofs.Places.{program_of, put_found, put_other}
 use Rattle.raid_asks.specs.Way.{begun_by, begins_of as begins}
 use Rattle.raid_asks.proofs.Cares.{begins_append, begins_told}
-use Rattle.raid_asks.proofs.Facts.{or_parts}
 use Rattle.raid_asks.proofs.Notes.{letters_append}
 use Rattle.raid_asks.proofs.Programs.{told}
 use Rattle.raid_layers.specs.Asks.{ask_of, asks_of}
 use Rattle.raid_layers.proofs.Tokens.{asks_append}
-use Rattle.raid_layers.proofs.Turns.{asked_by, asked_sent, filtered_out, filtered_other, IsKnown, asked_more, asked_same, known_more}
+use Rattle.raid_layers.proofs.Turns.{asked_by, asked_sent, filtered_out, filtered_other, IsKnown, asked_same, known_more}
 use Rattle.raid_answered.proofs.Counts.{ends_asked, Balance}
 
 -- behind an ask of the transaction stands no Begin of it that was sent in the session
