@@ -1,5 +1,5 @@
 -- Where no letter is left nobody runs: who does is at home and waits for others that run, so none does.
-use Rattle.std.proofs.Common.{◌≡◌, inl, inr, ℕ, zero, suc, ◌+◌, ◌-◌, ◌<◌, ◌≤◌, nat_lt, Bool, true, false, not, List, [], ◌∷◌, Option, Some, length, if◌then◌else◌, arith, sym, subst, ap, ◌∙◌, refl}
+use Rattle.std.proofs.Common.{◌≡◌, inl, inr, ℕ, ℤ, zero, suc, ◌+◌, ◌-◌, ◌<◌, ◌≤◌, nat_lt, Bool, true, false, not, List, [], ◌∷◌, Option, Some, length, if◌then◌else◌, arith, sym, subst, ap, ◌∙◌, refl}
 use Rattle.std.specs.Prelude.{slice_get}
 use Rattle.std.proofs.lemmas.Bool.{and_parts, true≢false}
 use Rattle.raid_base.specs.declared.names.Txn.{Txn}
@@ -62,18 +62,18 @@ module _ (w : Workload) (schedule : List Pick) (idle : is_idle (run w schedule) 
 
   module _ (stuck : Stuck w (run w schedule)) where
     its_phase : (k : ℕ) (s : SiteState) → IsAwake (run w schedule) k s → IsTold w p k s → (t : Txn) (r : Running) → running_of s t ≡ Some r → has_ended p t ≡ false → (phase : Phase) → r.phase ≡ phase → is_waiting p t ≡ true
-    its_phase k s awake told t r here open (asking ask x q) q = absurd (stuck.reads k s awake t r here open ask x q q)
-    its_phase k s awake told t r here open (preparing reads writes awaited) q = absurd (stuck.votes k s awake told t r here reads writes awaited q)
-    its_phase k s awake told t r here open sent q = stuck.waits k s awake t r here open q
+    its_phase k s awake told t r here alive (asking ask x by) q = absurd (stuck.reads k s awake t r here alive ask x by q)
+    its_phase k s awake told t r here alive (preparing reads writes awaited) q = absurd (stuck.votes k s awake told t r here reads writes awaited q)
+    its_phase k s awake told t r here alive sent q = stuck.waits k s awake t r here alive q
 
     all_wait : (t : Txn) → is_running p t ≡ true → is_waiting p t ≡ true
-    all_wait t runs = its_phase k own.0 here.0 here.1 t program.0 program.1 open program.0.phase refl
+    all_wait t runs = its_phase k own.0 here.0 here.1 t program.0 program.1 alive program.0.phase refl
       where
         parts : (has_begun p t ≡ true) × (not (has_ended p t) ≡ true)
         parts = and_parts (has_begun p t) (not (has_ended p t)) runs
 
-        open : has_ended p t ≡ false
-        open = go (has_ended p t) parts.1
+        alive : has_ended p t ≡ false
+        alive = go (has_ended p t) parts.1
           where
             go : (b : Bool) → not b ≡ true → b ≡ false
             go false q = refl
