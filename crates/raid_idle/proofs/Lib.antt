@@ -1,2 +1,3 @@
 pub mod Finished
+pub mod Nobody
 pub mod Once

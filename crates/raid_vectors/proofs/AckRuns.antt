@@ -1,5 +1,5 @@
 -- In every run, who owes an Ack has its Apply or the Ack on its way.
-use Rattle.std.proofs.Common.{◌≡◌, ◌≢◌, ◌⊎◌, inl, inr, ℕ, zero, suc, ◌+◌, ◌<◌, ◌≤◌, ◌==◌, Bool, true, false, not, ◌&&◌, ◌||◌, List, [], ◌∷◌, ◌++◌, fold, length, map, Some, None, if◌then◌else◌, arith, sym, subst, ap, ◌∙◌, refl, append-nil}
+use Rattle.std.proofs.Common.{◌≡◌, ◌≢◌, ◌⊎◌, inl, inr, ℕ, zero, suc, ◌+◌, ◌-◌, ◌<◌, ◌≤◌, ◌==◌, Bool, true, false, not, ◌&&◌, ◌||◌, List, [], ◌∷◌, ◌++◌, fold, length, map, Some, None, if◌then◌else◌, arith, sym, subst, ap, ◌∙◌, refl, append-nil}
 use Rattle.std.specs.Prelude.{slice_get}
 use Rattle.std.specs.List.{list_any}
 use Rattle.std.proofs.lemmas.Bool.{and_from, and_parts, eqb-true, true≢false}
@@ -28,7 +28,9 @@ use Rattle.raid_steps.specs.Sequencer.{so_far, place, is_hello, finish, hear_seq
 use Rattle.raid_steps.specs.World.{World, link, run, open_world, is_idle}
 use Rattle.raid_placed.proofs.Heard.{sent_placed}
 use Rattle.raid_sessions.proofs.Agreed.{run_idle}
+use Rattle.raid_sessions.specs.Present.{own_session}
 use Rattle.raid_sessions.proofs.Lists.{get_known, is_same, same_self}
+use Rattle.raid_sessions.proofs.Reached.{reached}
 use Rattle.raid_sessions.proofs.Mail.{same_or_not, letters_to}
 use Rattle.raid_asks.proofs.Facts.{or_left, or_right, or_parts}
 use Rattle.raid_versions.proofs.Mid.{owes_now, sized_push}
@@ -226,3 +228,57 @@ module _ (w : Workload) where
 
   pub runs_owe : (schedule : List Pick) → AcksCome w (run w schedule)
   runs_owe schedule k s at told = (owe schedule k s at).1 told
+
+  -- where no letter is left, none does
+  module _ (schedule : List Pick) (idle : is_idle (run w schedule) ≡ true) where
+    abbrev told : List Noted
+    told = noted (run w schedule).servers.sequencer.history
+
+    none_of : {X : Type 0} (test : X → Bool) (xs : List X) → ((x : X) → test x ≡ true → ⊥) → list_any test xs ≡ false
+    none_of test [] none = refl
+    none_of test (x ∷ xs) none = go (test x) refl (none_of test xs none)
+      where
+        go : (b : Bool) → test x ≡ b → list_any test xs ≡ false → (b || list_any test xs) ≡ false
+        go true q rest = absurd (none x q)
+        go false q rest = rest
+
+    owes_none : (k : ℕ) → k < w.sites → (t : Txn) → owes told (site (k + 1)) t ≡ true → ⊥
+    owes_none k low t o = go own.0.up refl
+      where
+        own : (s : SiteState) × (slice_get (run w schedule).servers.sites k ≡ Some s)
+        own = get_known (run w schedule).servers.sites k (let long = (reached w schedule).long in omega (arith, low, long))
+
+        up : 1 ≤ session (vector w told) (site (k + 1))
+        up = (owe schedule k own.0 own.1).0 t o
+
+        agrees : session (vector w told) (site (k + 1)) ≡ own_session own.0
+        agrees = run_idle w schedule idle k own.0 own.1
+
+        go : (b : Bool) → own.0.up ≡ b → ⊥
+        go false stopped = (let none : session (vector w told) (site (k + 1)) ≡ 0 = agrees ∙ ap (λ b. if b then own.0.session else 0) stopped in omega (arith, up, none))
+        go true here = true≢false (sym comes ∙ nothing)
+          where
+            comes : (is_to_apply own.0.session t (link (run w schedule).links (k + 2) 1) || is_acked own.0.session t (link (run w schedule).links 1 (k + 2))) ≡ true
+            comes = (owe schedule k own.0 own.1).1 (record { up = here; told = agrees ∙ ap (λ b. if b then own.0.session else 0) here }) t o
+
+            nothing : (is_to_apply own.0.session t (link (run w schedule).links (k + 2) 1) || is_acked own.0.session t (link (run w schedule).links 1 (k + 2))) ≡ false
+            nothing =
+                ap (λ ls. is_to_apply own.0.session t ls || is_acked own.0.session t (link (run w schedule).links 1 (k + 2))) (idle_link (run w schedule) (k + 2) 1 idle)
+                ∙ ap (is_acked own.0.session t) (idle_link (run w schedule) 1 (k + 2) idle)
+
+    among : (a n : ℕ) → 1 ≤ a → a + n ≤ w.sites + 1 → list_any (λ s. list_any (owes told s) (txns w)) (map site (count_from a n)) ≡ false
+    among a zero low high = refl
+    among a (suc n) low high = go (list_any (owes told (site a)) (txns w)) here (among (a + 1) n (omega (arith, low)) (omega (arith, high)))
+      where
+        back : site (a - 1 + 1) ≡ site a
+        back = ap site (let e : a - 1 + 1 ≡ a = omega (arith, low) in e)
+
+        here : list_any (owes told (site a)) (txns w) ≡ false
+        here = none_of (owes told (site a)) (txns w) (λ t o. owes_none (a - 1) (omega (arith, low, high)) t (subst (λ s. owes told s t ≡ true) (sym back) o))
+
+        go : (b : Bool) → b ≡ false → list_any (λ s. list_any (owes told s) (txns w)) (map site (count_from (a + 1) n)) ≡ false → (b || list_any (λ s. list_any (owes told s) (txns w)) (map site (count_from (a + 1) n))) ≡ false
+        go false q rest = rest
+        go true q rest = q
+
+    pub none_owe : NoneOwes w (run w schedule)
+    none_owe = among 1 w.sites (omega arith) (omega arith)

@@ -9,7 +9,7 @@ ghost use Rattle.raid_workload.specs.declared.workload.Workload.{Workload};
 ghost use Rattle.raid_message.specs.declared.letter.Pick.{Pick};
 ghost use Rattle.raid_steps.specs.World.{run, is_idle};
 ghost use Rattle.raid_vectors.specs.Vectors.{VectorsCome, VectorsAgree};
-ghost use Rattle.raid_vectors.specs.Acks.{AcksCome};
+ghost use Rattle.raid_vectors.specs.Acks.{AcksCome, NoneOwes};
 
 /// Whatever steps were taken: where the history has a site up in the site's own session, the site's vector comes to that of the history once the
 /// site has heard what the sequencer has on its way to it. And the site's own session stands in its vector, or its Welcome is the first that it hears.
@@ -28,4 +28,9 @@ pub fn idle_vectors_are_as_told()
 #[tactic(auto, using(crate::proofs::AckRuns::runs_owe))]
 pub fn owed_acks_are_on_their_way()
     ensures { (w : Workload) (schedule : List Pick) → AcksCome w (run w schedule) }
+{}
+
+/// Where no letter is left on any link, no site owes an Ack.
+pub fn idle_runs_owe_nothing()
+    ensures { (w : Workload) (schedule : List Pick) → is_idle (run w schedule) ≡ true → NoneOwes w (run w schedule) }
 {}
