@@ -1,2 +1,5 @@
 pub mod Entries
 pub mod Facts
+pub mod Reading
+pub mod Standing
+pub mod AtSequencer
