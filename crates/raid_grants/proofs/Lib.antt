@@ -3,3 +3,4 @@ pub mod Facts
 pub mod Reading
 pub mod Standing
 pub mod AtSequencer
+pub mod Walk
