@@ -4,3 +4,4 @@ pub mod Reading
 pub mod Standing
 pub mod AtSequencer
 pub mod Walk
+pub mod Answers
