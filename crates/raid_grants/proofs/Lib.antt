@@ -5,3 +5,5 @@ pub mod Standing
 pub mod AtSequencer
 pub mod Walk
 pub mod Answers
+pub mod Links
+pub mod Messages
