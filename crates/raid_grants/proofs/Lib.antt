@@ -7,3 +7,4 @@ pub mod Walk
 pub mod Answers
 pub mod Links
 pub mod Messages
+pub mod AtSites
