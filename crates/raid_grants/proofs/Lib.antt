@@ -8,3 +8,6 @@ pub mod Answers
 pub mod Links
 pub mod Messages
 pub mod AtSites
+pub mod AtHome
+pub mod Runs
+pub mod Idle
