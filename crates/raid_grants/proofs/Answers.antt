@@ -1,13 +1,10 @@
 -- What a home does with what it hears for the ask that a program waits for: a value lets the program go on, and who serves is noted.
 use Rattle.std.proofs.Common.{◌≡◌, ℕ, ℤ, ◌+◌, ◌==◌, Bool, true, false, List, [], ◌∷◌, map, Option, Some, None, if◌then◌else◌, sym, subst, ap, ◌∙◌, refl}
-use Rattle.std.specs.List.{list_any}
 use Rattle.std.specs.Option.{option_map_or}
 use Rattle.raid_base.specs.declared.names.Txn.{Txn}
 use Rattle.raid_base.specs.declared.names.Item.{Item}
 use Rattle.raid_base.specs.declared.names.Site.{Site}
-use Rattle.raid_base.specs.declared.entry.Cause.TheVariants as causes
 use Rattle.raid_base.specs.Names.{is_item, is_site}
-use Rattle.raid_base.specs.Sites.{site}
 use Rattle.raid_program.specs.Run.{put}
 use Rattle.raid_workload.specs.declared.workload.Workload.{Workload}
 use Rattle.raid_legal.specs.Seen.{holds_some}

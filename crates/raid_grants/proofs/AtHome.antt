@@ -1,5 +1,5 @@
 -- A home's own step leaves its programs standing: a value lets one go on, and a note that the serving site is down lets it ask again.
-use Rattle.std.proofs.Common.{◌≡◌, ◌≢◌, ◌⊎◌, inl, inr, ℕ, ℤ, zero, suc, ◌+◌, ◌-◌, ◌<◌, ◌≤◌, ◌==◌, Bool, true, false, ◌&&◌, ◌||◌, List, [], ◌∷◌, ◌++◌, Option, Some, None, if◌then◌else◌, arith, sym, subst, ap, ◌∙◌, refl}
+use Rattle.std.proofs.Common.{◌≡◌, ◌≢◌, ◌⊎◌, inl, inr, ℕ, suc, ◌+◌, ◌-◌, ◌<◌, ◌≤◌, ◌==◌, true, false, ◌&&◌, ◌||◌, List, [], ◌∷◌, ◌++◌, Option, Some, None, arith, sym, subst, ap, ◌∙◌, refl}
 use Rattle.std.specs.Prelude.{slice_get, slice_set, is_some}
 use Rattle.std.specs.List.{AllByRecursion, list_any}
 use Rattle.std.proofs.lemmas.Bool.{and_from, and_parts, eqb-true, true≢false}
@@ -12,7 +12,6 @@ use Rattle.raid_base.specs.declared.entry.Noted.{Noted}
 use Rattle.raid_base.specs.Names.{is_txn, is_site, has_txn}
 use Rattle.raid_base.specs.Sites.{session, site}
 use Rattle.raid_workload.specs.declared.workload.Workload.{Workload}
-use Rattle.raid_workload.specs.Parts.{home}
 use Rattle.raid_rules.specs.History.{noted, has_ended}
 use Rattle.raid_rules.specs.Sessions.{last_session}
 use Rattle.raid_legal.specs.Seen.{vector, has_down_after}
@@ -22,14 +21,14 @@ use Rattle.raid_steps.specs.State.{Turn, asking, Running, SiteState}
 use Rattle.raid_steps.specs.Fits.{knows_txn, knows_site}
 use Rattle.raid_steps.specs.Programs.{running_of}
 use Rattle.raid_steps.specs.Site.{hear_site}
-use Rattle.raid_steps.specs.World.{World, Servers, link}
+use Rattle.raid_steps.specs.World.{World, link}
 use Rattle.raid_placed.proofs.Orderly.{placed_whole}
 use Rattle.raid_sessions.proofs.Agreed.{told_follows, told_up}
 use Rattle.raid_sessions.proofs.Lists.{get_below, get_set, get_other, some_is, is_same, same_self, within}
 use Rattle.raid_sessions.proofs.Mail.{same_or_not, letters_to, moved, moved_taken, moved_sent, moved_other}
-use Rattle.raid_moves.specs.Moves.{Ascend, Hears, Tells, Says}
+use Rattle.raid_moves.specs.Moves.{Ascend, Hears, Tells}
 use Rattle.raid_moves.specs.After.{needs}
-use Rattle.raid_moves.proofs.Places.{program_of, all_found, found_txn}
+use Rattle.raid_moves.proofs.Places.{all_found, found_txn}
 use Rattle.raid_moves.proofs.Swept.{none_needs}
 use Rattle.raid_asks.specs.Way.{begins_of as begins}
 use Rattle.raid_asks.proofs.Facts.{or_left, or_right, or_parts}
@@ -45,9 +44,8 @@ use Rattle.raid_layers.proofs.Turns.{asked_by, asked_sent}
 use Rattle.raid_witness.specs.Ended.{count_reads}
 use Rattle.raid_grants.specs.Grants.{reads_for, is_to_read, brings_for, brings_value, is_down_note, note_comes, ValueComes, IsUnderWay}
 use Rattle.raid_grants.proofs.Answers.{read_later, value_later, server_known}
-use Rattle.raid_grants.proofs.AtSites as sites
 use Rattle.raid_grants.proofs.AtSites.{place_is, read_tells, comes_after, other_stands}
-use Rattle.raid_grants.proofs.Facts.{note_known, or_first}
+use Rattle.raid_grants.proofs.Facts.{or_first}
 use Rattle.raid_grants.proofs.Links.{none_read, due_new, txn_known}
 use Rattle.raid_grants.proofs.Messages.{reads_is, brings_is, serves_is, note_more, down_is}
 use Rattle.raid_grants.proofs.Standing.{Standing, waiting, granted, StandsAt, StandAll, Below}

@@ -1,22 +1,21 @@
 -- The sequencer's step leaves programs standing: what it grants is on its way, and what was granted stays so.
-use Rattle.std.proofs.Common.{◌≡◌, ◌≢◌, ◌⊎◌, inl, inr, ℕ, zero, suc, ◌+◌, ◌-◌, ◌<◌, ◌≤◌, ◌==◌, nat_lt, Bool, true, false, ◌&&◌, ◌||◌, List, [], ◌∷◌, ◌++◌, length, length-append, Option, Some, None, if◌then◌else◌, arith, sym, subst, ap, ◌∙◌, refl, append-nil}
+use Rattle.std.proofs.Common.{◌≡◌, ◌≢◌, ◌⊎◌, inl, inr, ℕ, suc, ◌+◌, ◌-◌, ◌<◌, ◌≤◌, ◌==◌, nat_lt, Bool, true, false, ◌&&◌, ◌||◌, List, [], ◌∷◌, ◌++◌, length, length-append, Option, Some, None, if◌then◌else◌, arith, sym, subst, ap, ◌∙◌, refl, append-nil}
 use Rattle.std.specs.Prelude.{slice_get, is_some}
 use Rattle.std.specs.List.{AllByRecursion, list_any}
-use Rattle.std.proofs.lemmas.Bool.{and_from, and_parts, eqb-true, true≢false}
+use Rattle.std.proofs.lemmas.Bool.{and_from, eqb-true, true≢false}
 use Rattle.raid_base.specs.declared.names.Txn.{Txn}
 use Rattle.raid_base.specs.declared.names.Item.{Item}
 use Rattle.raid_base.specs.declared.names.Site.{Site}
-use Rattle.raid_base.specs.declared.entry.Entry.{Entry}
 use Rattle.raid_base.specs.declared.entry.Entry.TheVariants.{Read}
 use Rattle.raid_base.specs.declared.entry.Noted.{Noted}
 use Rattle.raid_base.specs.Names.{is_txn, is_site}
 use Rattle.raid_base.specs.Sites.{session, site}
 use Rattle.raid_workload.specs.declared.workload.Workload.{Workload}
 use Rattle.raid_workload.specs.Parts.{home}
-use Rattle.raid_rules.specs.Entries.{is_read, is_down, is_end_of}
-use Rattle.raid_rules.specs.History.{noted, add, next, has_ended}
+use Rattle.raid_rules.specs.Entries.{is_down, is_end_of}
+use Rattle.raid_rules.specs.History.{noted, next, has_ended}
 use Rattle.raid_rules.specs.Sessions.{last_session}
-use Rattle.raid_rules.proofs.Push.{noted_push, vector_push, same_txn}
+use Rattle.raid_rules.proofs.Push.{noted_push, vector_push}
 use Rattle.raid_legal.specs.Seen.{vector, is_up, has_down_after}
 use Rattle.raid_legal.specs.Legal.{last_read}
 use Rattle.raid_message.specs.declared.letter.Message.{Message}
@@ -25,9 +24,8 @@ use Rattle.raid_message.specs.declared.letter.Letter.{Letter}
 use Rattle.raid_steps.specs.State.{Out, Turn, Sequencer, opened, to_site, asking, Running, SiteState}
 use Rattle.raid_steps.specs.Fits.{knows_site}
 use Rattle.raid_steps.specs.Programs.{running_of}
-use Rattle.raid_steps.specs.Sequencer as rows
 use Rattle.raid_steps.specs.Sequencer.{so_far, place, finish, hear_sequencer}
-use Rattle.raid_steps.specs.World.{World, Servers, link}
+use Rattle.raid_steps.specs.World.{World, link}
 use Rattle.raid_placed.specs.Placed.{Placed}
 use Rattle.raid_sessions.proofs.Agreed.{told_up}
 use Rattle.raid_sessions.proofs.Holds.{Holds}
@@ -44,16 +42,15 @@ use Rattle.raid_letters.proofs.Runs.{LetterSays}
 use Rattle.raid_layers.specs.Asks.{ask_of, asks_of, tells_server, Outstanding, asked, dropped, read, IsAbout, Talks}
 use Rattle.raid_layers.proofs.Histories.{any_same, any_kept, read_push, last_within}
 use Rattle.raid_layers.proofs.Tokens.{IsAskOf, asked_home}
-use Rattle.raid_layers.proofs.Worlds.{Landed}
 use Rattle.raid_versions.proofs.Mid.{last_push}
 use Rattle.raid_vectors.proofs.Along.{sent, steps_keep, finish_keep}
-use Rattle.raid_vectors.proofs.Runs.{low_at, known_at, some_at, heard_by_steps}
+use Rattle.raid_vectors.proofs.Runs.{low_at, some_at, heard_by_steps}
 use Rattle.raid_witness.specs.Ended.{count_reads}
 use Rattle.raid_grants.specs.Grants.{reads_for, is_to_read, brings_value, ValueComes, told, brought, ended, IsUnderWay}
-use Rattle.raid_grants.proofs.Entries.{Mid, positive, some_session, entries_keep, copies_keep}
+use Rattle.raid_grants.proofs.Entries.{Mid, some_session, entries_keep, copies_keep}
 use Rattle.raid_grants.proofs.Facts.{any_on, any_new, count_push, Same}
-use Rattle.raid_grants.proofs.Reading.{finish_same, unread, Came, unanswered, granted_at, came_from}
-use Rattle.raid_grants.proofs.Standing.{sent_there, comes_still, Standing, waiting, granted, StandsAt, StandAll, Below, under}
+use Rattle.raid_grants.proofs.Reading.{finish_same, unread, Came, unanswered, granted_at, came_from, Taking, takes, takes_not, taking}
+use Rattle.raid_grants.proofs.Standing.{sent_there, comes_still, Standing, waiting, granted, StandAll, Below, under}
 
 -- no entry of a history has a number past its length
 none_past : (n : ℕ) (s : Site) (p : List Noted) → AllByRecursion (λ (z : Noted). z.at ≤ n) p → list_any (λ (z : Noted). nat_lt (n + 1) z.at && is_down (is_site s) z.entry) p ≡ false
@@ -311,31 +308,9 @@ module _ (w : Workload) (world : World) (below : Below w world) (from clock : �
               less : (i j : ℕ) → i ≤ j → i ≢ j → i < j
               less i j le differ = strict i j le differ (i == j) refl
 
-  -- whether the letter asks to read for the transaction
-  data Taking (t : Txn) : Type 0 where
-    takes : (j ask : ℕ) (x : Item) → from ≡ j + 2 → letter.message ≡ letters.ReadAsk t ask x → Taking t
-    takes_not : ((j ask : ℕ) (x : Item) → from ≡ j + 2 → letter.message ≡ letters.ReadAsk t ask x → ⊥) → Taking t
-
-  taking : (t : Txn) → Taking t
-  taking t = by letter.message refl (sender from refl)
-    where
-      sender : (f : ℕ) → from ≡ f → ((j : ℕ) × (from ≡ j + 2)) ⊎ ((j : ℕ) → from ≡ j + 2 → ⊥)
-      sender zero of = inr (λ j e. omega (arith, of, e))
-      sender (suc zero) of = inr (λ j e. omega (arith, of, e))
-      sender (suc (suc j)) of = inl (j, omega (arith, of))
-
-      reads : (u : Txn) (ask : ℕ) (x : Item) → letter.message ≡ letters.ReadAsk u ask x → (j : ℕ) → from ≡ j + 2 → (c : Bool) → is_txn t u ≡ c → Taking t
-      reads u ask x is j of true e = takes j ask x of (is ∙ ap (λ z. letters.ReadAsk z ask x) (same_txn u t e))
-      reads u ask x is j of false e = takes_not (λ i a y f g. (let same : letters.ReadAsk u ask x ≡ letters.ReadAsk t a y = sym is ∙ g in let it : u ≡ t = cc same in true≢false (sym (same_self t.0) ∙ subst (λ z. is_txn t z ≡ false) it e)))
-
-      by : (message : Message) → letter.message ≡ message → ((j : ℕ) × (from ≡ j + 2)) ⊎ ((j : ℕ) → from ≡ j + 2 → ⊥) → Taking t
-      by (letters.ReadAsk u ask x) is (inl (j, of)) = reads u ask x is j of (is_txn t u) refl
-      by message is (inr never) = takes_not (λ i a y f g. never i f)
-      by other is some = takes_not (λ i a y f g. cc (sym is ∙ g))
-
   -- who is over stays so
   over_stays : (t : Txn) → has_ended p t ≡ true → has_ended q t ≡ true
-  over_stays t over = go (taking t)
+  over_stays t over = go (taking from letter t)
     where
       came : (j ask : ℕ) (x : Item) → Came w t st ask x turn → has_ended q t ≡ true
       came j ask x (unanswered same) = same.over over
@@ -343,7 +318,7 @@ module _ (w : Workload) (world : World) (below : Below w world) (from clock : �
           subst (λ (z : Turn Sequencer). has_ended (so_far z) t ≡ true) (sym is)
           ((finish_same w t st (place w ask (opened st) (Read t x s))).over (subst (λ z. has_ended z t ≡ true) (sym (noted_push st.history (Read t x s))) (any_kept (λ z. is_end_of t z.entry) p (next p (Read t x s)) over)))
 
-      go : Taking t → has_ended q t ≡ true
+      go : Taking from letter t → has_ended q t ≡ true
       go (takes_not never) = (unread w t from letter st never).over over
       go (takes j ask x of is) = came j ask x (came_from w t st ask x below.landed.holds.ledger.long (below.landed.holds.placed, below.landed.holds.quiet) j from of letter is)
 
@@ -368,7 +343,7 @@ module _ (w : Workload) (world : World) (below : Below w world) (from clock : �
         stood : last_session p (site (k + 1)) ≡ state.session → Standing w p world.servers.sites links k state.session t ask x o (asks_of t (link links 1 (k + 2)))
         stood before = all k state at up before t r found ask x o phase (unended (has_ended p t) refl)
 
-        by_taking : last_session p (site (k + 1)) ≡ state.session → Taking t → Standing w q world.servers.sites after k state.session t ask x o (asks_of t (link after 1 (k + 2)))
+        by_taking : last_session p (site (k + 1)) ≡ state.session → Taking from letter t → Standing w q world.servers.sites after k state.session t ask x o (asks_of t (link after 1 (k + 2)))
         by_taking before (takes_not never) = stands_on after_holds k state at up before last t r found ask x o phase (unread w t from letter st never) (stood before)
         by_taking before (takes j a y of is) = talked (below.talks.1 k state at up before t)
           where
@@ -417,5 +392,5 @@ module _ (w : Workload) (world : World) (below : Below w world) (from clock : �
                 about (inr a) = outstanding (subst (IsAbout p links k state.session t r.asks r.answers (asks_of t (link links 1 (k + 2)))) phase a).1.1.1
 
         by_last : (last_session p (site (k + 1)) ≡ state.session) ⊎ (last_session p (site (k + 1)) ≢ state.session) → Standing w q world.servers.sites after k state.session t ask x o (asks_of t (link after 1 (k + 2)))
-        by_last (inl before) = by_taking before (taking t)
+        by_last (inl before) = by_taking before (taking from letter t)
         by_last (inr differ) = absurd (asleep_yet differ (below.landed.waits k state at).stage)

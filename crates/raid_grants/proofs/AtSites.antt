@@ -1,6 +1,6 @@
 -- A site's step leaves the value of a read that was granted on its way, but for the letter that it takes: and what is to be read for another
 -- home is sent there.
-use Rattle.std.proofs.Common.{◌≡◌, ◌≢◌, ◌⊎◌, inl, inr, ℕ, ℤ, zero, suc, ◌+◌, ◌-◌, ◌<◌, ◌≤◌, ◌==◌, Bool, true, false, ◌&&◌, ◌||◌, List, [], ◌∷◌, ◌++◌, Option, Some, None, if◌then◌else◌, arith, sym, subst, ap, ◌∙◌, refl}
+use Rattle.std.proofs.Common.{◌≡◌, ◌≢◌, ◌⊎◌, inl, inr, ℕ, suc, ◌+◌, ◌-◌, ◌<◌, ◌≤◌, ◌==◌, Bool, true, false, ◌&&◌, ◌||◌, List, [], ◌∷◌, ◌++◌, Option, Some, if◌then◌else◌, arith, sym, subst, ap, ◌∙◌, refl}
 use Rattle.std.specs.Prelude.{slice_get, slice_set, is_some}
 use Rattle.std.specs.List.{AllByRecursion, list_any}
 use Rattle.std.specs.Option.{option_map_or}
@@ -13,39 +13,36 @@ use Rattle.raid_base.specs.Names.{is_txn, is_site}
 use Rattle.raid_base.specs.Sites.{session, site}
 use Rattle.raid_workload.specs.declared.workload.Workload.{Workload}
 use Rattle.raid_workload.specs.Parts.{home}
-use Rattle.raid_rules.specs.History.{noted, has_ended}
+use Rattle.raid_rules.specs.History.{noted}
 use Rattle.raid_rules.specs.Sessions.{last_session}
-use Rattle.raid_legal.specs.Seen.{vector, has_down_after}
+use Rattle.raid_legal.specs.Seen.{vector}
 use Rattle.raid_message.specs.declared.letter.Message.TheVariants as letters
 use Rattle.raid_message.specs.declared.letter.Letter.{Letter}
-use Rattle.raid_steps.specs.State.{Out, Turn, opened, asking, Copy, Running, SiteState}
+use Rattle.raid_steps.specs.State.{Out, Turn, opened, Copy, SiteState}
 use Rattle.raid_steps.specs.Copies.{copy_of, holds_copy}
 use Rattle.raid_steps.specs.Fits.{knows_txn, knows_item, knows_site, is_of_sequencer}
-use Rattle.raid_steps.specs.Programs.{running_of, give, ask_commits}
+use Rattle.raid_steps.specs.Programs.{give, ask_commits}
 use Rattle.raid_steps.specs.Site.{hear_site, serve, fits_here}
-use Rattle.raid_steps.specs.World.{World, Servers, link}
+use Rattle.raid_steps.specs.World.{World, link}
 use Rattle.raid_steps.proofs.Parts.{home_known}
 use Rattle.raid_sessions.proofs.Agreed.{told_follows}
 use Rattle.raid_sessions.proofs.Ledger.{session_most}
-use Rattle.raid_sessions.proofs.Lists.{get_below, get_set, get_other, some_is, is_same, same_self, within}
+use Rattle.raid_sessions.proofs.Lists.{get_below, some_is, is_same, same_self, within}
 use Rattle.raid_sessions.proofs.Mail.{same_or_not, letter_of, letters_to, moved, moved_sent, moved_other}
 use Rattle.raid_sessions.proofs.Reached.{from_below}
 use Rattle.raid_moves.specs.Moves.{Hears, Tells}
-use Rattle.raid_moves.proofs.Places.{all_found, found_txn}
 use Rattle.raid_moves.proofs.Swept.{told_is}
 use Rattle.raid_asks.proofs.Facts.{or_left}
-use Rattle.raid_asks.proofs.Least.{Ours}
 use Rattle.raid_letters.specs.Says.{NoteSays, ReadDoSays}
 use Rattle.raid_letters.proofs.Runs.{LetterSays}
 use Rattle.raid_layers.specs.Asks.{asks_of, tells_server}
-use Rattle.raid_layers.proofs.Worlds.{Landed}
-use Rattle.raid_witness.specs.Ended.{HasEnded, count_reads}
-use Rattle.raid_grants.specs.Grants.{reads_for, is_to_read, brings_for, brings_value, note_comes, ValueComes, told, brought, ended, IsUnderWay}
+use Rattle.raid_witness.specs.Ended.{HasEnded}
+use Rattle.raid_grants.specs.Grants.{reads_for, is_to_read, brings_value, note_comes, ValueComes, told, brought, ended}
 use Rattle.raid_grants.proofs.Answers.{copy_held}
 use Rattle.raid_grants.proofs.Facts.{any_new}
-use Rattle.raid_grants.proofs.Links.{any_moved, ended_still, commits_extend, txn_known, item_known}
+use Rattle.raid_grants.proofs.Links.{any_moved, ended_still, commits_extend, item_known}
 use Rattle.raid_grants.proofs.Messages.{reads_is}
-use Rattle.raid_grants.proofs.Standing.{sent_there, comes_still, Standing, waiting, granted, StandsAt, StandAll, Below}
+use Rattle.raid_grants.proofs.Standing.{sent_there, comes_still, Standing, waiting, granted, Below}
 
 module _ (w : Workload) (world : World) (below : Below w world) (from clock : ℕ) (letter : Letter) (rest : List Letter) (j : ℕ) (state : SiteState) (at : slice_get world.servers.sites j ≡ Some state) (front : link world.links (suc (suc j)) from ≡ letter ∷ rest) where
   abbrev pub turn : Turn SiteState

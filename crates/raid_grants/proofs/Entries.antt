@@ -22,12 +22,11 @@ use Rattle.raid_steps.specs.Fits.{knows_site}
 use Rattle.raid_steps.proofs.Parts.{number_known}
 use Rattle.raid_placed.specs.Placed.{Placeable}
 use Rattle.raid_sessions.proofs.Ledger.{session_set}
-use Rattle.raid_sessions.proofs.Lists.{is_same, same_self}
+use Rattle.raid_sessions.proofs.Lists.{is_same}
 use Rattle.raid_layers.specs.Asks.{tells_server}
-use Rattle.raid_layers.proofs.Histories.{any_push, any_same, any_last, any_kept}
+use Rattle.raid_layers.proofs.Histories.{any_same, any_last, any_kept}
 use Rattle.raid_versions.proofs.Mid.{last_push, sized_push}
 use Rattle.raid_versions.proofs.Placing.{up_was_down}
-use Rattle.raid_versions.proofs.Steps.{Why}
 use Rattle.raid_vectors.proofs.Along.{its_letter, gets, one_gets, sent, copied, EntriesKeep, CopiesKeep}
 use Rattle.raid_grants.specs.Grants.{note_comes}
 use Rattle.raid_grants.proofs.Facts.{any_on, or_first, note_on, note_new, note_one}

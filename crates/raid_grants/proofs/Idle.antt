@@ -1,5 +1,5 @@
 -- Where no letter is left, no program waits for a read that was granted.
-use Rattle.std.proofs.Common.{◌≡◌, ◌⊎◌, inl, inr, ℕ, ◌+◌, ◌-◌, ◌<◌, ◌≤◌, Bool, true, false, List, [], Option, Some, None, if◌then◌else◌, arith, sym, subst, ap, ◌∙◌, refl}
+use Rattle.std.proofs.Common.{◌≡◌, ℕ, ◌+◌, ◌-◌, ◌≤◌, Bool, true, false, List, Option, Some, if◌then◌else◌, arith, sym, ap, ◌∙◌, refl}
 use Rattle.std.specs.Prelude.{slice_get, is_some}
 use Rattle.std.specs.List.{list_any}
 use Rattle.std.proofs.lemmas.Bool.{true≢false}
@@ -15,13 +15,12 @@ use Rattle.raid_message.specs.declared.letter.Letter.{Letter}
 use Rattle.raid_message.specs.declared.letter.Pick.{Pick}
 use Rattle.raid_steps.specs.State.{SiteState}
 use Rattle.raid_steps.specs.World.{World, run, link, is_idle}
-use Rattle.raid_sessions.specs.Present.{told_session, own_session}
+use Rattle.raid_sessions.specs.Present.{own_session}
 use Rattle.raid_sessions.proofs.Agreed.{run_idle}
 use Rattle.raid_sessions.proofs.Lists.{get_known, within}
 use Rattle.raid_sessions.proofs.Reached.{reached}
 use Rattle.raid_layers.specs.Asks.{asks_of}
 use Rattle.raid_vectors.proofs.Runs.{idle_link}
-use Rattle.raid_witness.specs.Ended.{HasEnded}
 use Rattle.raid_grants.specs.Grants.{note_comes, is_to_read, brings_value, ValueComes, told, brought, ended, IsUnderWay, NoGrantIsAwaited}
 use Rattle.raid_grants.proofs.Entries.{some_session}
 use Rattle.raid_grants.proofs.Runs.{runs_grant}

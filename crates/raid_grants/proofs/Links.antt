@@ -1,6 +1,6 @@
 -- A letter that was on its way is so after a step, unless it is the one that was taken; and what fits the workload.
-use Rattle.std.proofs.Common.{◌≡◌, ◌≢◌, ◌⊎◌, inl, inr, ℕ, zero, suc, ◌+◌, ◌-◌, ◌<◌, ◌≤◌, ◌==◌, nat_lt, nat_le, Bool, true, false, ◌&&◌, ◌||◌, List, [], ◌∷◌, ◌++◌, length, map, Option, Some, None, if◌then◌else◌, arith, sym, subst, ap, ◌∙◌, refl, append-nil, append_assoc}
-use Rattle.std.specs.Prelude.{slice_get, slice_set, slice_index_or, fold, count_by, is_some}
+use Rattle.std.proofs.Common.{◌≡◌, ◌≢◌, ◌⊎◌, inl, inr, ℕ, zero, suc, ◌+◌, ◌-◌, ◌<◌, ◌≤◌, ◌==◌, nat_lt, Bool, true, false, ◌||◌, List, [], ◌∷◌, ◌++◌, length, Some, if◌then◌else◌, arith, sym, subst, ap, ◌∙◌, refl, append-nil, append_assoc}
+use Rattle.std.specs.Prelude.{slice_get, slice_set, slice_index_or, fold, count_by}
 use Rattle.std.specs.List.{AllByRecursion, list_any}
 use Rattle.std.proofs.lemmas.Bool.{true≢false}
 use Rattle.std.proofs.lemmas.Grind.{common_steps}
@@ -22,7 +22,6 @@ use Rattle.raid_rules.specs.History.{has_begun}
 use Rattle.raid_rules.specs.Order.{is_of, IsWhole}
 use Rattle.raid_rules.specs.Sessions.{last_session}
 use Rattle.raid_rules.proofs.Push.{same_txn}
-use Rattle.raid_message.specs.declared.letter.Message.{Message}
 use Rattle.raid_message.specs.declared.letter.Letter.{Letter}
 use Rattle.raid_steps.specs.State.{Out, Turn, Phase, asking, preparing, sent, Running, SiteState}
 use Rattle.raid_steps.specs.Fits.{knows_txn, knows_item, knows_site}
@@ -31,7 +30,7 @@ use Rattle.raid_steps.specs.Site.{hear_site}
 use Rattle.raid_steps.specs.World.{link}
 use Rattle.raid_sessions.proofs.Lists.{get_below, get_set, get_other, some_is, within}
 use Rattle.raid_sessions.proofs.Mail.{AreSquare, same_or_not, letters_to, moved, moved_taken, moved_sent, moved_other, own_taken, own_left}
-use Rattle.raid_asks.proofs.Facts.{or_left, or_right, or_parts, any_weaken}
+use Rattle.raid_asks.proofs.Facts.{or_parts, any_weaken}
 use Rattle.raid_asks.proofs.Least.{known_txn}
 use Rattle.raid_asks.proofs.Line.{Due}
 use Rattle.raid_letters.specs.Says.{is_held}

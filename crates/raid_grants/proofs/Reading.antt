@@ -1,5 +1,5 @@
 -- What the sequencer's step does to a transaction's reads: nothing, but that it may answer the ReadAsk that it takes.
-use Rattle.std.proofs.Common.{◌≡◌, ℕ, zero, suc, ◌+◌, ◌-◌, ◌<◌, ◌≤◌, ◌==◌, nat_lt, nat_le, Bool, true, false, ◌&&◌, ◌||◌, List, [], ◌∷◌, ◌++◌, length, Option, Some, None, if◌then◌else◌, arith, sym, subst, ap, ◌∙◌, refl}
+use Rattle.std.proofs.Common.{◌≡◌, ◌⊎◌, inl, inr, ℕ, zero, suc, ◌+◌, ◌-◌, ◌<◌, ◌≤◌, ◌==◌, nat_le, Bool, true, false, ◌&&◌, ◌||◌, List, [], ◌∷◌, ◌++◌, length, Option, Some, None, if◌then◌else◌, arith, sym, subst, ap, ◌∙◌, refl}
 use Rattle.std.specs.Prelude.{slice_index, slice_get}
 use Rattle.std.specs.List.{AllByRecursion}
 use Rattle.std.specs.Option.{option_map_or}
@@ -17,7 +17,7 @@ use Rattle.raid_base.specs.Sites.{session, site, all_sites}
 use Rattle.raid_workload.specs.declared.workload.Workload.{Workload}
 use Rattle.raid_workload.specs.Parts.{home, placement}
 use Rattle.raid_rules.specs.Entries.{is_read}
-use Rattle.raid_rules.specs.History.{noted, stamp, has_ended}
+use Rattle.raid_rules.specs.History.{noted, stamp}
 use Rattle.raid_rules.specs.Sessions.{source_for}
 use Rattle.raid_rules.specs.Sessions as rules
 use Rattle.raid_rules.specs.Verdicts.{reading}
@@ -29,6 +29,7 @@ use Rattle.raid_legal.specs.Answers.{served, answer_read}
 use Rattle.raid_legal.specs.Forced.{forced}
 use Rattle.raid_legal.specs.Legal.{is_free}
 use Rattle.raid_legal.proofs.Left.{Compels, forced_compels}
+use Rattle.raid_message.specs.declared.letter.Message.{Message}
 use Rattle.raid_message.specs.declared.letter.Message.TheVariants as letters
 use Rattle.raid_message.specs.declared.letter.Letter.{Letter}
 use Rattle.raid_steps.specs.State.{Turn, Sequencer, opened}
@@ -37,10 +38,10 @@ use Rattle.raid_steps.specs.Sequencer as rows
 use Rattle.raid_steps.specs.Sequencer.{so_far, place, settle_from, finish, hear_sequencer}
 use Rattle.raid_placed.specs.Placed.{Placed}
 use Rattle.raid_placed.proofs.Heard.{Fine, sent_placed, read_sent}
+use Rattle.raid_sessions.proofs.Lists.{same_self}
 use Rattle.raid_letters.proofs.Sends.{first_in}
 use Rattle.raid_layers.proofs.Opening.{IsLater, Chain, done, places, sends, First, reads, waits, nothing, Opens, hear_opens}
 use Rattle.raid_versions.proofs.Steps.{source_unlocked}
-use Rattle.raid_witness.specs.Ended.{count_reads}
 use Rattle.raid_grants.proofs.Entries.{some_session}
 use Rattle.raid_grants.proofs.Facts.{Same, same_none, same_both, same_push}
 
@@ -56,6 +57,29 @@ source_in found h s q = go (has_site found h) refl q
     go : (b : Bool) → has_site found h ≡ b → (if b then Some h else slice_get found 0) ≡ Some s → has_site found s ≡ true
     go true e q = (let same : h ≡ s = cc q in subst (λ z. has_site found z ≡ true) same e)
     go false e q = first_in found s q
+
+module _ (from : ℕ) (letter : Letter) where
+  -- whether the letter asks to read for the transaction
+  pub data Taking (t : Txn) : Type 0 where
+    takes : (j ask : ℕ) (x : Item) → from ≡ j + 2 → letter.message ≡ letters.ReadAsk t ask x → Taking t
+    takes_not : ((j ask : ℕ) (x : Item) → from ≡ j + 2 → letter.message ≡ letters.ReadAsk t ask x → ⊥) → Taking t
+
+  pub taking : (t : Txn) → Taking t
+  taking t = by letter.message refl (sender from refl)
+    where
+      sender : (f : ℕ) → from ≡ f → ((j : ℕ) × (from ≡ j + 2)) ⊎ ((j : ℕ) → from ≡ j + 2 → ⊥)
+      sender zero of = inr (λ j e. omega (arith, of, e))
+      sender (suc zero) of = inr (λ j e. omega (arith, of, e))
+      sender (suc (suc j)) of = inl (j, omega (arith, of))
+
+      reads : (u : Txn) (ask : ℕ) (x : Item) → letter.message ≡ letters.ReadAsk u ask x → (j : ℕ) → from ≡ j + 2 → (c : Bool) → is_txn t u ≡ c → Taking t
+      reads u ask x is j of true e = takes j ask x of (is ∙ ap (λ z. letters.ReadAsk z ask x) (same_txn u t e))
+      reads u ask x is j of false e = takes_not (λ i a y f g. (let same : letters.ReadAsk u ask x ≡ letters.ReadAsk t a y = sym is ∙ g in let it : u ≡ t = cc same in true≢false (sym (same_self t.0) ∙ subst (λ z. is_txn t z ≡ false) it e)))
+
+      by : (message : Message) → letter.message ≡ message → ((j : ℕ) × (from ≡ j + 2)) ⊎ ((j : ℕ) → from ≡ j + 2 → ⊥) → Taking t
+      by (letters.ReadAsk u ask x) is (inl (j, of)) = reads u ask x is j of (is_txn t u) refl
+      by message is (inr never) = takes_not (λ i a y f g. never i f)
+      by other is some = takes_not (λ i a y f g. cc (sym is ∙ g))
 
 module _ (w : Workload) where
   -- a source is up, and known

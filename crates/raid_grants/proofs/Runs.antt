@@ -1,12 +1,9 @@
 -- In every run, what was granted comes.
-use Rattle.std.proofs.Common.{◌≡◌, ◌≢◌, inl, inr, ℕ, zero, suc, ◌+◌, ◌<◌, true, ◌||◌, List, [], ◌∷◌, ◌++◌, length, Option, Some, None, arith, sym, subst, ap, ◌∙◌, refl, append-nil, append_assoc}
+use Rattle.std.proofs.Common.{◌≡◌, ◌≢◌, inl, ℕ, zero, suc, ◌+◌, ◌<◌, true, ◌||◌, List, [], ◌∷◌, ◌++◌, Option, Some, None, arith, sym, subst, ap, ◌∙◌, refl, append-nil, append_assoc}
 use Rattle.std.specs.Prelude.{max, slice_get, slice_set, slice_index, is_some}
 use Rattle.std.specs.List.{list_any}
 use Rattle.std.specs.Option.{option_map_or}
 use Rattle.std.proofs.lemmas.List.Sums.{fold-append}
-use Rattle.raid_base.specs.declared.names.Txn.{Txn}
-use Rattle.raid_base.specs.declared.names.Item.{Item}
-use Rattle.raid_base.specs.declared.names.Site.{Site}
 use Rattle.raid_base.specs.Names.{is_site}
 use Rattle.raid_base.specs.Sites.{session, site}
 use Rattle.raid_workload.specs.declared.workload.Workload.{Workload}
@@ -14,11 +11,10 @@ use Rattle.raid_rules.specs.History.{noted}
 use Rattle.raid_legal.specs.Seen.{vector}
 use Rattle.raid_message.specs.declared.letter.Letter.{Letter}
 use Rattle.raid_message.specs.declared.letter.Pick.{Pick}
-use Rattle.raid_steps.specs.State.{Out, asking, Running, SiteState}
+use Rattle.raid_steps.specs.State.{Out, SiteState}
 use Rattle.raid_steps.specs.Monitor.{hear_monitor}
 use Rattle.raid_steps.specs.Programs.{running_of}
 use Rattle.raid_steps.specs.Site.{hear_site}
-use Rattle.raid_steps.specs.Sequencer.{hear_sequencer}
 use Rattle.raid_steps.specs.World.{World, hear, hear_at, session_of, link, take_front, pick, run, open_world, first_site}
 use Rattle.raid_sessions.proofs.Holds.{Holds}
 use Rattle.raid_sessions.proofs.Lists.{get_below, get_set, within}
@@ -31,11 +27,10 @@ use Rattle.raid_layers.specs.Asks.{asks_of, tells_server}
 use Rattle.raid_layers.proofs.Laws.{reads, gives, asks_one}
 use Rattle.raid_layers.proofs.Runs.{landed, nobody}
 use Rattle.raid_versions.proofs.Runs as versions
-use Rattle.raid_witness.specs.Ended.{count_reads}
 use Rattle.raid_grants.specs.Grants.{note_comes, is_to_read, brings_value, told, brought, ended, IsUnderWay, GrantsCome}
 use Rattle.raid_grants.proofs.AtHome.{site_stands}
 use Rattle.raid_grants.proofs.AtSequencer.{sequencer_stands}
-use Rattle.raid_grants.proofs.Standing.{comes_still, Standing, waiting, granted, StandsAt, StandAll, Below}
+use Rattle.raid_grants.proofs.Standing.{comes_still, Standing, waiting, granted, StandAll, Below}
 
 module _ (w : Workload) where
   abbrev Stands : World → Type 0

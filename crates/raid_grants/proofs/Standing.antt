@@ -10,7 +10,7 @@ use Rattle.raid_base.specs.declared.entry.Entry.TheVariants.{Read}
 use Rattle.raid_base.specs.declared.entry.Noted.{Noted}
 use Rattle.raid_base.specs.Sites.{session, site}
 use Rattle.raid_workload.specs.declared.workload.Workload.{Workload}
-use Rattle.raid_rules.specs.History.{noted, has_ended}
+use Rattle.raid_rules.specs.History.{has_ended}
 use Rattle.raid_rules.specs.Sessions.{last_session}
 use Rattle.raid_legal.specs.Seen.{vector, has_down_after}
 use Rattle.raid_legal.specs.Legal.{last_read}

@@ -1,6 +1,5 @@
 -- What a step of a home makes of its programs that wait: they wait as before, or they have asked for more than was granted, or have begun.
 use Rattle.std.proofs.Common.{◌≡◌, ◌⊎◌, inl, inr, ℕ, ℤ, ◌+◌, ◌<◌, ◌≤◌, ◌==◌, Bool, true, false, not, ◌||◌, List, [], ◌∷◌, ◌++◌, map, filter, Option, Some, None, if◌then◌else◌, arith, sym, subst, ap, ◌∙◌, refl, append-nil}
-use Rattle.std.proofs.lemmas.Bool.{true≢false}
 use Rattle.std.proofs.lemmas.List.Folds.{list_any-append}
 use Rattle.raid_base.specs.declared.names.Txn.{Txn}
 use Rattle.raid_base.specs.declared.names.Item.{Item}
@@ -10,7 +9,7 @@ use Rattle.raid_base.specs.declared.entry.Answer.TheVariants.{Yes, No}
 use Rattle.raid_base.specs.declared.entry.Cause.TheVariants as causes
 use Rattle.raid_base.specs.declared.entry.Noted.{Noted}
 use Rattle.raid_base.specs.Names.{is_txn, has_txn}
-use Rattle.raid_base.specs.Sites.{session, site}
+use Rattle.raid_base.specs.Sites.{site}
 use Rattle.raid_workload.specs.declared.workload.Workload.{Workload}
 use Rattle.raid_rules.specs.History.{has_ended}
 use Rattle.raid_rules.proofs.Push.{same_txn}
@@ -135,10 +134,13 @@ module _ (w : Workload) (p : List Noted) (state : SiteState) (from : ℕ) (lette
       its ask y o ph still =
           let number : r.asks + 1 ≡ ask = cc ph in (
             sym number,
-            inr (omega (arith, number), elim (fine still) [
-              | inl few ↦ inl (omega (arith, few, number))
-              | inr way ↦ inr (told_more turn.outs new r.txn way)
-            ]),
+            inr (
+              omega (arith, number),
+              elim (fine still) [
+                | inl few ↦ inl (omega (arith, few, number))
+                | inr way ↦ inr (told_more turn.outs new r.txn way)
+              ],
+            ),
           )
 
   goes_keep : (turn : Turn SiteState) (r : Running) {after : Turn SiteState} → Goes w turn r after → (has_ended p r.txn ≡ false → (count_reads p r.txn < r.asks + 1) ⊎ (has_txn (told turn.outs) r.txn ≡ true)) → Keeps turn → Keeps after
@@ -202,12 +204,12 @@ module _ (w : Workload) (p : List Noted) (state : SiteState) (from : ℕ) (lette
   row_keeps (parts.notes r ask x q s f ph e) =
       keeps_puts (opened state) _ (record r { phase = asking ask x (Some s) }) [] refl refl (λ t d. refl)
       (λ a y o is still.
-        let numbers : ask ≡ a = cc is in
-        let items : x ≡ y = cc is in
-        let sites : Some s ≡ o = cc is in (
-          sym numbers ∙ (counts r.txn r ask x q f ph still).0,
-          inl (record { was = r; knew = q; ran = f; phase = ph ∙ ap (λ z. asking z x q) numbers ∙ ap (λ z. asking a z q) items; unasked = refl; knows = inr (s, (subst (λ z. Tells w state from letter (letters.Serving r.txn z s)) numbers e, sym sites)) }),
-        )) start
+      let numbers : ask ≡ a = cc is in
+      let items : x ≡ y = cc is in
+      let sites : Some s ≡ o = cc is in (
+        sym numbers ∙ (counts r.txn r ask x q f ph still).0,
+        inl (record { was = r; knew = q; ran = f; phase = ph ∙ ap (λ z. asking z x q) numbers ∙ ap (λ z. asking a z q) items; unasked = refl; knows = inr (s, (subst (λ z. Tells w state from letter (letters.Serving r.txn z s)) numbers e, sym sites)) }),
+      )) start
   row_keeps (parts.applied t number ps e q) = sends 1 0 (letters.Ack t) _ refl refl (λ t. refl)
   row_keeps (parts.over t e) = keeps_ends (opened state) _ t refl refl start
   row_keeps (parts.dropped t again e q) = keeps_ends (opened state) _ t refl refl start

@@ -26,7 +26,8 @@ use Rattle.raid_witness.specs.Ended.{HasEnded, count_reads}
 
 -- the message has an item read for the ask of the transaction, for its home at a place, counted from 0, in its session m
 abbrev pub reads_for : ℕ → ℕ → Txn → ℕ → Message → Bool
-reads_for k m t ask (letters.ReadDo u a x h n) = is_txn t u && (a == ask && (h.0 == k + 1 && n == m))
+reads_for k m t ask (letters.ReadDo u a x h n) =
+    is_txn t u && (a == ask && (h.0 == k + 1 && n == m))
 reads_for k m t ask other = false
 
 -- the letter tells its site so, in session n of it
@@ -46,7 +47,8 @@ brings_value m t ask l = l.to == m && brings_for t ask l.message
 -- brought to the home at a place, in the home's session m; or the site's session has ended
 pub data ValueComes (sites : List SiteState) (links : List (List (List Letter))) (k m n : ℕ)
     (t : Txn) (ask : ℕ) (s : Site) : Type 0 where
-  told : list_any (is_to_read n k m t ask) (link links (s.0 + 1) 1) ≡ true → ValueComes sites links k m n t ask s
+  told : list_any (is_to_read n k m t ask) (link links (s.0 + 1) 1) ≡ true →
+      ValueComes sites links k m n t ask s
   brought : list_any (brings_value m t ask) (link links (k + 2) (s.0 + 1)) ≡ true →
       ValueComes sites links k m n t ask s
   ended : HasEnded sites s n → ValueComes sites links k m n t ask s
@@ -61,13 +63,14 @@ is_down_note s other = false
 abbrev pub note_comes : ℕ → Txn → ℕ → Site → Bool → List Letter → Bool
 note_comes m t ask s known [] = false
 note_comes m t ask s known (l ∷ ls) =
-    (known && (l.to == m && is_down_note s l.message)) || note_comes m t ask s (known || tells_server t m ask l) ls
+    (known && (l.to == m && is_down_note s l.message))
+    || note_comes m t ask s (known || tells_server t m ask l) ls
 
 -- The transaction's last Read is of the item, and what it grants comes to the home at a place, in its
 -- session m, where the program waits for the ask and knows q to serve it
 pub record IsUnderWay (w : Workload) (p : List Noted) (sites : List SiteState)
-    (links : List (List (List Letter))) (k m : ℕ) (t : Txn) (ask : ℕ) (x : Item) (q : Option Site)
-    : Type 0 where
+    (links : List (List (List Letter))) (k m : ℕ) (t : Txn) (ask : ℕ) (x : Item)
+    (q : Option Site) : Type 0 where
   pub read : Noted
   pub server : Site
   pub last : last_read p t ≡ Some read
@@ -92,7 +95,8 @@ GrantsCome w state =
     let p = noted state.servers.sequencer.history in
     (k : ℕ) (s : SiteState) → IsAwake state k s →
     (t : Txn) (r : Running) → running_of s t ≡ Some r →
-    (ask : ℕ) (x : Item) (q : Option Site) → r.phase ≡ asking ask x q → has_ended p t ≡ false →
+    (ask : ℕ) (x : Item) (q : Option Site) → r.phase ≡ asking ask x q →
+    has_ended p t ≡ false →
     asks_of t (link state.links 1 (k + 2)) ≡ [] → count_reads p t ≡ ask →
     IsUnderWay w p state.servers.sites state.links k s.session t ask x q
 
@@ -102,5 +106,6 @@ NoGrantIsAwaited w state =
     let p = noted state.servers.sequencer.history in
     (k : ℕ) (s : SiteState) → IsAwake state k s →
     (t : Txn) (r : Running) → running_of s t ≡ Some r →
-    (ask : ℕ) (x : Item) (q : Option Site) → r.phase ≡ asking ask x q → has_ended p t ≡ false →
+    (ask : ℕ) (x : Item) (q : Option Site) → r.phase ≡ asking ask x q →
+    has_ended p t ≡ false →
     count_reads p t ≡ ask → ⊥
