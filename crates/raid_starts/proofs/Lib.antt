@@ -1,3 +1,5 @@
 pub mod Idle
 pub mod Puts
 pub mod Filling
+pub mod Stepping
+pub mod Attempts
