@@ -3,3 +3,4 @@ pub mod Puts
 pub mod Filling
 pub mod Stepping
 pub mod Attempts
+pub mod Coming
