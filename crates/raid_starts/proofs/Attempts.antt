@@ -84,7 +84,7 @@ module _ (w : Workload) where
       ]
 
   -- a Down of the home leaves nothing due there
-  down_none : (h : List Entry) (r : Site) (t : Txn) → Placed w h → is_site (home w t) r ≡ true → again w (noted (h ++ Down r ∷ [])) t ≡ true → ⊥
+  pub down_none : (h : List Entry) (r : Site) (t : Txn) → Placed w h → is_site (home w t) r ≡ true → again w (noted (h ++ Down r ∷ [])) t ≡ true → ⊥
   down_none h r t placed at due = none p order.numbered (elim (or_parts (list_any (test q) p) (test q (next p (Down r))) (sym (any_push (test q) p (next p (Down r))) ∙ parts.1)) [ inl old ↦ old | inr new ↦ absurd (true≢false (sym new)) ])
     where
       p : List Noted

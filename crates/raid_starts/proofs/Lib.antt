@@ -4,3 +4,5 @@ pub mod Filling
 pub mod Stepping
 pub mod Attempts
 pub mod Coming
+pub mod Entries
+pub mod Sequencer
