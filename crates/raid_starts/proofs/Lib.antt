@@ -6,3 +6,6 @@ pub mod Attempts
 pub mod Coming
 pub mod Entries
 pub mod Sequencer
+pub mod Full
+pub mod Sites
+pub mod Runs
