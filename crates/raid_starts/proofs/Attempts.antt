@@ -1,35 +1,28 @@
 -- Which attempts are due as the history grows: an entry makes one due that aborts the attempt before, while their home is up.
-use Rattle.std.proofs.Common.{◌≡◌, ◌⊎◌, inl, inr, ℕ, zero, suc, ◌+◌, ◌-◌, ◌*◌, ◌/◌, ◌<◌, ◌≤◌, ◌==◌, nat_lt, Bool, true, false, not, ◌&&◌, ◌||◌, List, [], ◌∷◌, ◌++◌, length, Option, Some, None, arith, sym, subst, ap, ◌∙◌, refl}
-use Rattle.std.specs.Prelude.{⊤}
+use Rattle.std.proofs.Common.{◌≡◌, ◌⊎◌, inl, inr, ℕ, zero, suc, ◌+◌, ◌-◌, ◌*◌, ◌<◌, ◌≤◌, nat_lt, Bool, true, false, not, ◌&&◌, ◌||◌, List, [], ◌∷◌, ◌++◌, length, arith, sym, subst, ap, ◌∙◌, refl}
 use Rattle.std.specs.List.{AllByRecursion, list_any}
 use Rattle.std.proofs.Math.Nat.{div-lt_iff_lt-mul}
-use Rattle.std.proofs.lemmas.Bool.{and_parts, and_from, eqb-true, true≢false}
-use Rattle.std.proofs.lemmas.Grind.{common_steps}
-use Rattle.std.proofs.lemmas.List.Folds.{list_any-append}
+use Rattle.std.proofs.lemmas.Bool.{and_parts, and_from, true≢false}
 use Rattle.raid_base.specs.declared.names.Txn.{Txn}
 use Rattle.raid_base.specs.declared.names.Site.{Site}
 use Rattle.raid_base.specs.declared.entry.Act.{Act}
 use Rattle.raid_base.specs.declared.entry.Cause.{Cause}
 use Rattle.raid_base.specs.declared.entry.Entry.{Entry}
-use Rattle.raid_base.specs.declared.entry.Entry.TheVariants.{Abort, Down, Up}
+use Rattle.raid_base.specs.declared.entry.Entry.TheVariants.{Abort, Down}
 use Rattle.raid_base.specs.declared.entry.Noted.{Noted}
 use Rattle.raid_base.specs.Names.{is_txn, is_site, has_txn}
-use Rattle.raid_base.specs.Sites.{session, site}
 use Rattle.raid_workload.specs.declared.workload.Workload.{Workload}
 use Rattle.raid_workload.specs.Parts.{txns, home}
 use Rattle.raid_rules.specs.Entries.{is_down}
 use Rattle.raid_rules.specs.History.{noted, add, next, has_begun, has_ended, is_running}
-use Rattle.raid_rules.specs.Sessions.{turn_vector}
-use Rattle.raid_rules.proofs.Places.{by_last}
-use Rattle.raid_rules.proofs.Push.{noted_push, vector_push, same_txn}
-use Rattle.raid_legal.specs.Seen.{attempt, again, previous, is_restart, is_restartable, has_down_after, vector, is_up}
+use Rattle.raid_rules.proofs.Push.{noted_push, same_txn}
+use Rattle.raid_legal.specs.Seen.{attempt, again, previous, is_restart, is_restartable, has_down_after, is_up}
 use Rattle.raid_steps.specs.Programs.{next_attempt}
 use Rattle.raid_placed.specs.Placed.{Placed, Placeable}
 use Rattle.raid_placed.proofs.Orderly.{placed_known, placeable_follows}
 use Rattle.raid_placed.proofs.Sent.{placed_push}
-use Rattle.raid_asks.proofs.Entries.{again_on}
 use Rattle.raid_asks.proofs.Facts.{Order, placed_order, or_left, or_right, or_parts}
-use Rattle.raid_asks.proofs.Least.{txn, known_txn, attempt_next, home_next, previous_next}
+use Rattle.raid_asks.proofs.Least.{txn, known_txn, attempt_next, home_next}
 use Rattle.raid_layers.proofs.Histories.{any_push}
 use Rattle.raid_legal_runs.proofs.Restarts.{restart_home}
 

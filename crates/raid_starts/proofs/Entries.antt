@@ -1,6 +1,6 @@
 -- Each entry that the sequencer places keeps what comes to a site.
-use Rattle.std.proofs.Common.{◌≡◌, ◌⊎◌, inl, inr, ℕ, suc, ◌+◌, ◌<◌, ◌≤◌, ◌==◌, nat_lt, Bool, true, false, not, ◌&&◌, ◌||◌, List, [], ◌∷◌, ◌++◌, length, Option, Some, None, if◌then◌else◌, arith, sym, subst, ap, ◌∙◌, refl}
-use Rattle.std.specs.List.{AllByRecursion, list_any}
+use Rattle.std.proofs.Common.{◌≡◌, ◌⊎◌, inl, inr, ℕ, ◌+◌, ◌<◌, ◌≤◌, ◌==◌, nat_lt, Bool, true, false, ◌&&◌, ◌||◌, List, [], ◌∷◌, ◌++◌, length, Option, Some, None, if◌then◌else◌, arith, sym, subst, ap, ◌∙◌, refl}
+use Rattle.std.specs.List.{list_any}
 use Rattle.std.proofs.lemmas.Bool.{and_from, and_parts, eqb-true, true≢false}
 use Rattle.raid_base.specs.declared.names.Txn.{Txn}
 use Rattle.raid_base.specs.declared.names.Site.{Site}
@@ -13,7 +13,7 @@ use Rattle.raid_base.specs.declared.request.Request.{Request}
 use Rattle.raid_base.specs.Names.{is_txn, is_site, has_txn}
 use Rattle.raid_base.specs.Sites.{session, site}
 use Rattle.raid_workload.specs.declared.workload.Workload.{Workload}
-use Rattle.raid_workload.specs.Parts.{txns, home}
+use Rattle.raid_workload.specs.Parts.{home}
 use Rattle.raid_rules.specs.Entries.{is_begin_of, is_end_of}
 use Rattle.raid_rules.specs.History.{noted, next, has_begun, has_ended, is_running}
 use Rattle.raid_rules.specs.Sessions.{last_session}
@@ -23,10 +23,9 @@ use Rattle.raid_legal.specs.Seen.{attempt, again, previous, is_restartable, vect
 use Rattle.raid_legal.specs.Forced.{forced}
 use Rattle.raid_legal.proofs.Left.{forced_compels}
 use Rattle.raid_message.specs.declared.letter.Letter.{Letter}
-use Rattle.raid_steps.specs.State.{Running, SiteState, Copying}
+use Rattle.raid_steps.specs.State.{Running, SiteState}
 use Rattle.raid_steps.specs.Fits.{knows_site}
 use Rattle.raid_steps.specs.Programs.{runs_here}
-use Rattle.raid_steps.specs.Sequencer as rows
 use Rattle.raid_steps.proofs.Parts.{number_known}
 use Rattle.raid_placed.specs.Placed.{Placed, Placeable, Goes}
 use Rattle.raid_sessions.proofs.Ledger.{is_still, last_still, last_down, last_up, session_still, session_set}
@@ -34,10 +33,9 @@ use Rattle.raid_sessions.proofs.Lists.{same_self}
 use Rattle.raid_asks.specs.Own.{IsOf}
 use Rattle.raid_asks.specs.Way.{begins_of}
 use Rattle.raid_asks.proofs.Facts.{or_left, or_right, or_parts, begin_may, may_parts}
-use Rattle.raid_layers.proofs.Histories.{any_push, any_kept}
+use Rattle.raid_layers.proofs.Histories.{any_push}
 use Rattle.raid_versions.proofs.Mid.{sized_push}
 use Rattle.raid_versions.proofs.Placing.{up_was_down}
-use Rattle.raid_versions.proofs.Steps.{Why}
 use Rattle.raid_vectors.specs.Vectors.{IsTold}
 use Rattle.raid_vectors.proofs.Along.{sent, copied, EntriesKeep, CopiesKeep}
 use Rattle.raid_witness.proofs.Histories as histories

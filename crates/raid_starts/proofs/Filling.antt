@@ -1,7 +1,7 @@
 -- Who runs at a site after it has heard that others may begin, and that as many run then as may.
-use Rattle.std.proofs.Common.{◌≡◌, ◌⊎◌, inl, inr, ℕ, zero, suc, ◌+◌, ◌<◌, ◌==◌, nat_lt, nat_le, Bool, true, false, not, ◌&&◌, ◌||◌, List, [], ◌∷◌, ◌++◌, length, filter, find, Option, Some, None, if◌then◌else◌, arith, sym, subst, ap, ◌∙◌, refl}
-use Rattle.std.specs.List.{AllByRecursion, list_any}
-use Rattle.std.proofs.lemmas.Bool.{and_parts, and_from, eqb-true, true≢false}
+use Rattle.std.proofs.Common.{◌≡◌, ◌⊎◌, inl, inr, ℕ, ◌==◌, nat_lt, Bool, true, false, not, ◌&&◌, ◌||◌, List, [], ◌∷◌, ◌++◌, filter, Option, Some, None, if◌then◌else◌, arith, sym, subst, ap, ◌∙◌, refl}
+use Rattle.std.specs.List.{AllByRecursion}
+use Rattle.std.proofs.lemmas.Bool.{eqb-true, true≢false}
 use Rattle.std.proofs.lemmas.Grind.{common_steps}
 use Rattle.std.proofs.lemmas.List.Folds.{list_any-append}
 use Rattle.raid_base.specs.declared.names.Txn.{Txn}
@@ -11,14 +11,14 @@ use Rattle.raid_workload.specs.declared.workload.Workload.{Workload}
 use Rattle.raid_rules.proofs.Push.{same_txn}
 use Rattle.raid_message.specs.declared.letter.Message.TheVariants as letters
 use Rattle.raid_message.specs.declared.letter.Letter.{Letter}
-use Rattle.raid_steps.specs.State.{Out, Turn, opened, with_state, tell, Running, SiteState}
-use Rattle.raid_steps.specs.Programs.{put_running, running_of, runs_here, following, begin, start, ask_commits, next_attempt}
+use Rattle.raid_steps.specs.State.{Out, Turn, tell, Running, SiteState}
+use Rattle.raid_steps.specs.Programs.{put_running, running_of, following, begin, start, ask_commits}
 use Rattle.raid_sessions.proofs.Lists.{same_self}
 use Rattle.raid_moves.specs.Moves as parts
 use Rattle.raid_moves.specs.Moves.{Ascend, Hears, Starts, fresh, next_of, passed, drops, Move, Moves}
 use Rattle.raid_moves.specs.After.{is_full}
 use Rattle.raid_moves.proofs.Filled.{starts_fill, commits_fill}
-use Rattle.raid_moves.proofs.Places.{all_found, all_kept, all_put, all_weaken, program_of, found_txn}
+use Rattle.raid_moves.proofs.Places.{all_found, all_put, all_weaken, program_of, found_txn}
 use Rattle.raid_moves.proofs.Steps.{goes_on, on, ascend_moves, starts, asks_commits}
 use Rattle.raid_asks.proofs.Facts.{or_left, or_right, or_parts}
 use Rattle.raid_asks.proofs.Least.{txn, IsFirst, IsNext, following_is}

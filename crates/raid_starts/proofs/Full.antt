@@ -1,61 +1,35 @@
 -- As many programs run at a site after its step as may, or none is left to begin.
-use Rattle.std.proofs.Common.{◌≡◌, ◌≢◌, ◌⊎◌, inl, inr, ℕ, zero, suc, ◌+◌, ◌-◌, ◌*◌, ◌<◌, ◌≤◌, ◌==◌, nat_lt, nat_le, Bool, true, false, not, ◌&&◌, ◌||◌, List, [], ◌∷◌, ◌++◌, length, Some, if◌then◌else◌, arith, sym, subst, ap, ◌∙◌, refl, append-nil}
+use Rattle.std.proofs.Common.{◌≡◌, inl, inr, ℕ, zero, suc, ◌+◌, ◌<◌, ◌≤◌, ◌==◌, nat_lt, Bool, true, false, not, ◌||◌, List, [], ◌∷◌, Some, if◌then◌else◌, arith, sym, subst, ap, ◌∙◌, refl}
 use Rattle.std.specs.Prelude.{slice_get}
 use Rattle.std.specs.List.{AllByRecursion}
-use Rattle.std.proofs.lemmas.Bool.{and_from, and_parts, eqb-true, true≢false}
-use Rattle.std.proofs.lemmas.Grind.{common_steps}
-use Rattle.std.proofs.lemmas.List.Folds.{list_any-append}
+use Rattle.std.proofs.lemmas.Bool.{eqb-true, true≢false}
 use Rattle.raid_base.specs.declared.names.Txn.{Txn}
 use Rattle.raid_base.specs.declared.names.Site.{Site}
 use Rattle.raid_base.specs.declared.entry.Noted.{Noted}
-use Rattle.raid_base.specs.Names.{is_txn, is_site, has_txn}
-use Rattle.raid_base.specs.Sites.{session, site}
+use Rattle.raid_base.specs.Names.{has_txn}
+use Rattle.raid_base.specs.Sites.{site}
 use Rattle.raid_workload.specs.declared.workload.Workload.{Workload}
-use Rattle.raid_workload.specs.Parts.{txns, home}
-use Rattle.raid_rules.specs.Entries.{is_end_of}
-use Rattle.raid_rules.specs.History.{noted, has_begun, has_ended, has_committed, is_running}
+use Rattle.raid_rules.specs.History.{noted, has_begun}
 use Rattle.raid_rules.specs.Sessions.{last_session}
-use Rattle.raid_rules.proofs.Push.{same_txn}
-use Rattle.raid_rules.proofs.Txns.{not_true}
-use Rattle.raid_legal.specs.Seen.{attempt, again, previous, vector}
+use Rattle.raid_legal.specs.Seen.{attempt}
 use Rattle.raid_message.specs.declared.letter.Message.{Message}
 use Rattle.raid_message.specs.declared.letter.Message.TheVariants as letters
 use Rattle.raid_message.specs.declared.letter.Letter.{Letter}
-use Rattle.raid_steps.specs.State.{Out, Turn, Running, SiteState, opened}
-use Rattle.raid_steps.specs.Fits.{knows_txn, is_of_sequencer}
+use Rattle.raid_steps.specs.State.{Turn, Running, SiteState}
 use Rattle.raid_steps.specs.Programs.{runs_here, next_attempt}
 use Rattle.raid_steps.specs.Site as rows
 use Rattle.raid_steps.specs.Site.{fits_here, hear_site}
 use Rattle.raid_steps.specs.World.{World, link}
-use Rattle.raid_sessions.proofs.Agreed as agreed
-use Rattle.raid_sessions.proofs.Lists.{get_below, get_set, is_same}
-use Rattle.raid_sessions.proofs.Mail.{letters_to, moved, moved_sent}
-use Rattle.raid_sessions.proofs.Reached.{from_below}
-use Rattle.raid_sessions.proofs.Site.{hears_server}
 use Rattle.raid_moves.specs.Moves.{Ascend}
 use Rattle.raid_moves.specs.After.{is_full}
-use Rattle.raid_asks.specs.Own.{IsOf}
 use Rattle.raid_asks.specs.Way.{begins_of}
-use Rattle.raid_asks.proofs.Cares.{Stage, stopped, asleep, fresh, awake, Cares, begins_append, begins_told}
-use Rattle.raid_asks.proofs.Facts.{or_left, or_right, or_parts, again_aborted}
-use Rattle.raid_asks.proofs.Homes as homes
-use Rattle.raid_asks.proofs.Least.{txn, Ours, IsFirst, known_txn, attempt_next}
-use Rattle.raid_asks.proofs.Line.{FineAt, CountsAt, NoteOk, Due, line_due}
+use Rattle.raid_asks.proofs.Cares.{Stage, stopped, asleep, fresh, awake}
+use Rattle.raid_asks.proofs.Least.{Ours, IsFirst, attempt_next}
+use Rattle.raid_asks.proofs.Line.{FineAt, CountsAt, NoteOk}
 use Rattle.raid_asks.proofs.Notes.{WelcomeOk, Welcoming, IsPlain}
-use Rattle.raid_asks.proofs.Programs.{told}
-use Rattle.raid_asks.proofs.Waits.{within, site_waits}
-use Rattle.raid_letters.specs.Says.{NoteSays, IsBefore, AreInTurn}
-use Rattle.raid_letters.proofs.Runs.{LetterSays, QueueSays}
-use Rattle.raid_layers.proofs.Histories.{committed_ended, fresh_unended}
-use Rattle.raid_placed.proofs.Orderly.{placed_known, placed_whole}
-use Rattle.raid_staged.proofs.Ends.{aborted_ended, placed_once}
+use Rattle.raid_asks.proofs.Waits.{within}
 use Rattle.raid_versions.proofs.Owed.{Known}
-use Rattle.raid_vectors.specs.Vectors.{IsTold}
-use Rattle.raid_vectors.proofs.Runs.{low_at, most_at}
-use Rattle.raid_witness.proofs.Sites.{step_stays}
-use Rattle.raid_starts.specs.Starts.{retries, ends, is_coming, NextCome, EndCome}
-use Rattle.raid_starts.proofs.Filling.{Behind, found_among}
-use Rattle.raid_starts.proofs.Stepping.{over, Stepped, stepped, retried, Ready, welcomed, running, step_full}
+use Rattle.raid_starts.proofs.Stepping.{Ready, welcomed, running, step_full}
 use Rattle.raid_starts.proofs.Sequencer.{at_among}
 
 module _ (w : Workload) (world : World) (known : Known w world) (from clock : ℕ) (letter : Letter) (rest : List Letter) (k : ℕ) (s : SiteState) (at : slice_get world.servers.sites k ≡ Some s) (front : link world.links (k + 2) from ≡ letter ∷ rest) (full : is_full w s ≡ true) where

@@ -1,11 +1,10 @@
 -- Where no letter is left and nobody runs, each transaction has begun or needn't.
-use Rattle.std.proofs.Common.{◌≡◌, ◌⊎◌, inl, inr, ℕ, zero, suc, ◌+◌, ◌-◌, ◌*◌, ◌<◌, ◌≤◌, ◌==◌, nat_lt, nat_le, Bool, true, false, not, ◌&&◌, ◌||◌, List, [], ◌∷◌, length, filter, Some, if◌then◌else◌, arith, sym, subst, ap, ◌∙◌, refl}
+use Rattle.std.proofs.Common.{◌≡◌, ℕ, zero, suc, ◌+◌, ◌-◌, ◌≤◌, ◌==◌, nat_lt, nat_le, Bool, true, false, not, ◌&&◌, ◌||◌, List, [], ◌∷◌, length, Some, if◌then◌else◌, arith, sym, subst, ap, ◌∙◌, refl}
 use Rattle.std.specs.Prelude.{slice_get}
 use Rattle.std.specs.List.{AllByRecursion, list_any, list_all}
-use Rattle.std.proofs.lemmas.Bool.{and_parts, and_from, eqb-true, true≢false}
+use Rattle.std.proofs.lemmas.Bool.{and_parts, and_from, true≢false}
 use Rattle.std.proofs.lemmas.Grind.{common_steps}
 use Rattle.raid_base.specs.declared.names.Txn.{Txn}
-use Rattle.raid_base.specs.declared.names.Site.{Site}
 use Rattle.raid_base.specs.declared.entry.Noted.{Noted}
 use Rattle.raid_base.specs.Names.{is_txn, is_site, has_txn}
 use Rattle.raid_base.specs.Sites.{session, site}
@@ -13,13 +12,12 @@ use Rattle.raid_workload.specs.declared.workload.Workload.{Workload}
 use Rattle.raid_workload.specs.Parts.{txns, home}
 use Rattle.raid_workload.specs.Rules.{is_within, are_restarts, are_items, are_switches, are_events, is_homed}
 use Rattle.raid_rules.specs.History.{noted, has_begun, has_ended, is_running}
-use Rattle.raid_rules.proofs.Txns.{has_kept, not_true}
+use Rattle.raid_rules.proofs.Txns.{has_kept}
 use Rattle.raid_legal.specs.Seen.{running, vector, is_up, attempt, previous, again}
 use Rattle.raid_legal.specs.Switched.{is_served}
-use Rattle.raid_message.specs.declared.letter.Letter.{Letter}
 use Rattle.raid_message.specs.declared.letter.Pick.{Pick}
 use Rattle.raid_steps.specs.State.{Running, SiteState}
-use Rattle.raid_steps.specs.Fits.{knows_site, knows_txn}
+use Rattle.raid_steps.specs.Fits.{knows_txn}
 use Rattle.raid_steps.specs.Programs.{runs_here}
 use Rattle.raid_steps.specs.World.{World, link, run, is_idle}
 use Rattle.raid_steps.proofs.Parts.{home_known}

@@ -1,19 +1,18 @@
 -- In every run, what may begin comes, and who is over is told so.
-use Rattle.std.proofs.Common.{◌≡◌, ◌⊎◌, inl, inr, ℕ, zero, suc, ◌+◌, ◌-◌, ◌*◌, ◌<◌, ◌≤◌, ◌==◌, nat_lt, nat_le, Bool, true, false, not, ◌&&◌, ◌||◌, List, [], ◌∷◌, replicate, Some, if◌then◌else◌, arith, sym, subst, ap, ◌∙◌, refl}
+use Rattle.std.proofs.Common.{◌≡◌, inl, inr, ℕ, zero, suc, ◌+◌, ◌-◌, ◌≤◌, ◌==◌, nat_lt, nat_le, Bool, true, false, not, ◌&&◌, ◌||◌, List, [], ◌∷◌, replicate, Some, arith, sym, subst, ap, ◌∙◌, refl}
 use Rattle.std.specs.Prelude.{slice_get, slice_index_or}
-use Rattle.std.specs.List.{list_any, list_all}
+use Rattle.std.specs.List.{list_all}
 use Rattle.std.proofs.lemmas.Bool.{and_from, and_parts, true≢false}
 use Rattle.std.proofs.lemmas.Grind.{common_steps}
 use Rattle.raid_base.specs.declared.names.Txn.{Txn}
 use Rattle.raid_base.specs.declared.names.Site.{Site}
 use Rattle.raid_base.specs.declared.entry.Noted.{Noted}
 use Rattle.raid_base.specs.Names.{is_site, has_txn}
-use Rattle.raid_base.specs.Sites.{session, site}
+use Rattle.raid_base.specs.Sites.{site}
 use Rattle.raid_workload.specs.declared.workload.Workload.{Workload}
 use Rattle.raid_workload.specs.Parts.{txns, home}
-use Rattle.raid_rules.specs.History.{noted, has_begun, has_ended}
-use Rattle.raid_rules.specs.Sessions.{last_session}
-use Rattle.raid_legal.specs.Seen.{running, attempt, again, previous, is_restart, has_down_after, vector, is_up}
+use Rattle.raid_rules.specs.History.{noted, has_begun}
+use Rattle.raid_legal.specs.Seen.{running, attempt, again, previous, is_up}
 use Rattle.raid_legal.specs.Switched.{is_served}
 use Rattle.raid_message.specs.declared.letter.Message.{Message}
 use Rattle.raid_message.specs.declared.letter.Message.TheVariants as letters
@@ -23,19 +22,17 @@ use Rattle.raid_moves.specs.After.{is_full}
 use Rattle.raid_steps.specs.State.{SiteState}
 use Rattle.raid_steps.specs.Fits.{knows_txn}
 use Rattle.raid_steps.specs.Programs.{next_attempt}
-use Rattle.raid_steps.specs.World.{World, link, run, open_world, is_idle}
+use Rattle.raid_steps.specs.World.{link, run, open_world, is_idle}
 use Rattle.raid_steps.proofs.Parts.{home_known}
 use Rattle.raid_sessions.proofs.Lists.{get_known, within, is_same, same_self}
 use Rattle.raid_sessions.proofs.Reached.{reached}
 use Rattle.raid_asks.specs.Own.{IsOf}
 use Rattle.raid_asks.specs.Way.{begins_of}
-use Rattle.raid_asks.proofs.Begins.{reached_all}
 use Rattle.raid_asks.proofs.Cares.{Stage, stopped, asleep, fresh, awake}
 use Rattle.raid_asks.proofs.Facts.{or_left, or_right, again_aborted}
 use Rattle.raid_asks.proofs.Least.{txn, IsFirst, known_txn, home_next}
 use Rattle.raid_asks.proofs.Notes.{Welcoming, WelcomeOk}
 use Rattle.raid_asks.proofs.Reached.{first_state}
-use Rattle.raid_asks.proofs.Waits.{Waits}
 use Rattle.raid_layers.proofs.Histories.{fresh_unended}
 use Rattle.raid_placed.proofs.Orderly.{placed_known, placed_whole}
 use Rattle.raid_staged.proofs.Ends.{aborted_ended}

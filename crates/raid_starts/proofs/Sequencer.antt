@@ -1,8 +1,8 @@
 -- The sequencer's step keeps what comes to each site.
-use Rattle.std.proofs.Common.{◌≡◌, ◌≢◌, ◌⊎◌, inl, inr, ℕ, zero, suc, ◌+◌, ◌<◌, ◌≤◌, ◌==◌, Bool, true, false, not, ◌&&◌, ◌||◌, List, [], ◌∷◌, ◌++◌, length, Some, if◌then◌else◌, arith, sym, subst, ap, ◌∙◌, refl, append-nil}
+use Rattle.std.proofs.Common.{◌≡◌, ◌≢◌, ◌⊎◌, inl, inr, ℕ, zero, suc, ◌+◌, ◌<◌, ◌==◌, Bool, true, false, not, ◌&&◌, List, [], ◌∷◌, ◌++◌, Some, if◌then◌else◌, arith, sym, subst, ap, ◌∙◌, refl, append-nil}
 use Rattle.std.specs.Prelude.{slice_get}
-use Rattle.std.specs.List.{AllByRecursion, list_any}
-use Rattle.std.proofs.lemmas.Bool.{and_from, and_parts, eqb-true, true≢false}
+use Rattle.std.specs.List.{AllByRecursion}
+use Rattle.std.proofs.lemmas.Bool.{eqb-true, true≢false}
 use Rattle.std.proofs.lemmas.List.Folds.{list_any-append}
 use Rattle.raid_base.specs.declared.names.Txn.{Txn}
 use Rattle.raid_base.specs.declared.names.Site.{Site}
@@ -10,7 +10,7 @@ use Rattle.raid_base.specs.declared.entry.Entry.{Entry}
 use Rattle.raid_base.specs.declared.entry.Entry.TheVariants.{Begin}
 use Rattle.raid_base.specs.declared.entry.Noted.{Noted}
 use Rattle.raid_base.specs.Names.{is_txn, is_site, has_txn}
-use Rattle.raid_base.specs.Sites.{session, site}
+use Rattle.raid_base.specs.Sites.{site}
 use Rattle.raid_workload.specs.declared.workload.Workload.{Workload}
 use Rattle.raid_workload.specs.Parts.{home}
 use Rattle.raid_rules.specs.Entries.{is_begin_of}
@@ -18,11 +18,10 @@ use Rattle.raid_rules.specs.History.{noted, next, has_begun}
 use Rattle.raid_rules.specs.Sessions.{last_session}
 use Rattle.raid_rules.proofs.Push.{noted_push, has_begun_push, same_txn}
 use Rattle.raid_rules.proofs.Txns.{not_true}
-use Rattle.raid_legal.specs.Seen.{previous, vector}
-use Rattle.raid_message.specs.declared.letter.Message.{Message}
+use Rattle.raid_legal.specs.Seen.{previous}
 use Rattle.raid_message.specs.declared.letter.Message.TheVariants as letters
 use Rattle.raid_message.specs.declared.letter.Letter.{Letter}
-use Rattle.raid_steps.specs.State.{Out, Turn, Sequencer, Running, SiteState, opened}
+use Rattle.raid_steps.specs.State.{Turn, Sequencer, Running, SiteState, opened}
 use Rattle.raid_steps.specs.Programs.{runs_here}
 use Rattle.raid_steps.specs.Sequencer as rows
 use Rattle.raid_steps.specs.Sequencer.{so_far, place, is_hello, hear_sequencer}
@@ -49,7 +48,7 @@ use Rattle.raid_vectors.specs.Vectors.{IsTold}
 use Rattle.raid_vectors.proofs.Along.{steps_keep}
 use Rattle.raid_vectors.proofs.Runs.{low_at, known_at, some_at, heard_by_steps}
 use Rattle.raid_witness.proofs.Histories.{steps_last}
-use Rattle.raid_starts.specs.Starts.{retries, is_coming, NextCome}
+use Rattle.raid_starts.specs.Starts.{retries, is_coming}
 use Rattle.raid_starts.proofs.Puts.{is_among}
 use Rattle.raid_starts.proofs.Coming.{Good, Coming}
 use Rattle.raid_starts.proofs.Entries.{Inner, Mid, Ready, entries_come, copies_come}

@@ -1,5 +1,5 @@
 -- A site's own step keeps what comes to it.
-use Rattle.std.proofs.Common.{◌≡◌, ◌≢◌, ◌⊎◌, inl, inr, ℕ, zero, suc, ◌+◌, ◌-◌, ◌*◌, ◌<◌, ◌≤◌, ◌==◌, nat_lt, nat_le, Bool, true, false, not, ◌&&◌, ◌||◌, List, [], ◌∷◌, ◌++◌, length, Some, if◌then◌else◌, arith, sym, subst, ap, ◌∙◌, refl, append-nil}
+use Rattle.std.proofs.Common.{◌≡◌, ◌⊎◌, inl, inr, ℕ, zero, suc, ◌+◌, ◌-◌, ◌*◌, ◌<◌, ◌≤◌, ◌==◌, nat_le, Bool, true, false, not, ◌&&◌, ◌||◌, List, [], ◌∷◌, ◌++◌, length, Some, if◌then◌else◌, arith, sym, subst, ap, ◌∙◌, refl, append-nil}
 use Rattle.std.specs.Prelude.{slice_get}
 use Rattle.std.specs.List.{AllByRecursion}
 use Rattle.std.proofs.lemmas.Bool.{and_from, and_parts, eqb-true, true≢false}
@@ -11,17 +11,15 @@ use Rattle.raid_base.specs.declared.entry.Noted.{Noted}
 use Rattle.raid_base.specs.Names.{is_txn, is_site, has_txn}
 use Rattle.raid_base.specs.Sites.{session, site}
 use Rattle.raid_workload.specs.declared.workload.Workload.{Workload}
-use Rattle.raid_workload.specs.Parts.{txns, home}
-use Rattle.raid_rules.specs.Entries.{is_end_of}
+use Rattle.raid_workload.specs.Parts.{home}
 use Rattle.raid_rules.specs.History.{noted, has_begun, has_ended, has_committed, is_running}
-use Rattle.raid_rules.specs.Sessions.{last_session}
 use Rattle.raid_rules.proofs.Push.{same_txn}
 use Rattle.raid_rules.proofs.Txns.{not_true}
 use Rattle.raid_legal.specs.Seen.{attempt, again, previous, vector}
 use Rattle.raid_message.specs.declared.letter.Message.{Message}
 use Rattle.raid_message.specs.declared.letter.Message.TheVariants as letters
 use Rattle.raid_message.specs.declared.letter.Letter.{Letter}
-use Rattle.raid_steps.specs.State.{Out, Turn, Running, SiteState, opened}
+use Rattle.raid_steps.specs.State.{Turn, SiteState}
 use Rattle.raid_steps.specs.Fits.{knows_txn, is_of_sequencer}
 use Rattle.raid_steps.specs.Programs.{runs_here, next_attempt}
 use Rattle.raid_steps.specs.Site as rows
@@ -33,28 +31,26 @@ use Rattle.raid_sessions.proofs.Mail.{letters_to, moved, moved_sent}
 use Rattle.raid_sessions.proofs.Reached.{from_below}
 use Rattle.raid_sessions.proofs.Site.{hears_server}
 use Rattle.raid_moves.specs.Moves.{Ascend}
-use Rattle.raid_moves.specs.After.{is_full}
 use Rattle.raid_asks.specs.Own.{IsOf}
 use Rattle.raid_asks.specs.Way.{begins_of}
 use Rattle.raid_asks.proofs.Cares.{Stage, stopped, asleep, fresh, awake, Cares, begins_append, begins_told}
 use Rattle.raid_asks.proofs.Facts.{or_left, or_right, or_parts, again_aborted}
 use Rattle.raid_asks.proofs.Homes as homes
-use Rattle.raid_asks.proofs.Least.{txn, Ours, IsFirst, known_txn, attempt_next}
-use Rattle.raid_asks.proofs.Line.{FineAt, CountsAt, NoteOk, Due, line_due}
-use Rattle.raid_asks.proofs.Notes.{WelcomeOk, Welcoming, IsPlain}
+use Rattle.raid_asks.proofs.Least.{txn, Ours, known_txn}
+use Rattle.raid_asks.proofs.Line.{FineAt, Due, line_due}
 use Rattle.raid_asks.proofs.Programs.{told}
-use Rattle.raid_asks.proofs.Waits.{within, site_waits}
+use Rattle.raid_asks.proofs.Waits.{site_waits}
 use Rattle.raid_letters.specs.Says.{NoteSays, IsBefore, AreInTurn}
-use Rattle.raid_letters.proofs.Runs.{LetterSays, QueueSays}
+use Rattle.raid_letters.proofs.Runs.{QueueSays}
 use Rattle.raid_layers.proofs.Histories.{committed_ended, fresh_unended}
-use Rattle.raid_placed.proofs.Orderly.{placed_known, placed_whole}
+use Rattle.raid_placed.proofs.Orderly.{placed_whole}
 use Rattle.raid_staged.proofs.Ends.{aborted_ended, placed_once}
 use Rattle.raid_versions.proofs.Owed.{Known}
 use Rattle.raid_vectors.specs.Vectors.{IsTold}
 use Rattle.raid_vectors.proofs.Runs.{low_at, most_at}
 use Rattle.raid_witness.proofs.Sites.{step_stays}
-use Rattle.raid_starts.specs.Starts.{retries, ends, is_coming, NextCome, EndCome}
-use Rattle.raid_starts.proofs.Filling.{Behind, found_among}
+use Rattle.raid_starts.specs.Starts.{retries, ends, is_coming}
+use Rattle.raid_starts.proofs.Filling.{found_among}
 use Rattle.raid_starts.proofs.Full.{own_full}
 use Rattle.raid_starts.proofs.Stepping.{over, Stepped, stepped, retried}
 use Rattle.raid_starts.proofs.Coming.{Good, Coming}

@@ -1,20 +1,18 @@
 -- A site's step: who runs after it, and that as many run as may.
-use Rattle.std.proofs.Common.{◌≡◌, ◌⊎◌, inl, inr, ℕ, zero, suc, ◌+◌, ◌==◌, nat_lt, nat_le, Bool, true, false, not, ◌&&◌, ◌||◌, List, [], ◌∷◌, ◌++◌, length, if◌then◌else◌, arith, sym, subst, ap, ◌∙◌, refl}
+use Rattle.std.proofs.Common.{◌≡◌, ◌⊎◌, inl, inr, ℕ, zero, suc, ◌==◌, nat_lt, nat_le, Bool, true, false, not, ◌&&◌, ◌||◌, List, [], length, if◌then◌else◌, arith, sym, subst, ap, ◌∙◌, refl}
 use Rattle.std.specs.List.{AllByRecursion}
 use Rattle.std.proofs.lemmas.Bool.{and_parts, and_from, eqb-true, true≢false}
-use Rattle.std.proofs.lemmas.Grind.{common_steps}
 use Rattle.raid_base.specs.declared.names.Txn.{Txn}
 use Rattle.raid_base.specs.declared.names.Site.{Site}
 use Rattle.raid_base.specs.Names.{is_txn, has_txn}
 use Rattle.raid_workload.specs.declared.workload.Workload.{Workload}
-use Rattle.raid_rules.proofs.Push.{same_txn}
 use Rattle.raid_rules.proofs.Txns.{not_true}
 use Rattle.raid_message.specs.declared.letter.Message.{Message}
 use Rattle.raid_message.specs.declared.letter.Message.TheVariants as letters
 use Rattle.raid_message.specs.declared.letter.Letter.{Letter}
 use Rattle.raid_steps.specs.State.{Turn, opened, with_state, tell, Running, SiteState}
 use Rattle.raid_steps.specs.Fits.{is_of_sequencer}
-use Rattle.raid_steps.specs.Programs.{put_running, runs_here, ended, begin, start, ask_commits, next_attempt}
+use Rattle.raid_steps.specs.Programs.{runs_here, ended, begin, start, ask_commits, next_attempt}
 use Rattle.raid_steps.specs.Site as rows
 use Rattle.raid_steps.specs.Site.{fits_here, hear_site}
 use Rattle.raid_sessions.proofs.Lists.{is_same, same_self}
@@ -28,7 +26,7 @@ use Rattle.raid_asks.proofs.Facts.{or_left, or_right}
 use Rattle.raid_asks.proofs.Least.{IsFirst, IsNext}
 use Rattle.raid_asks.proofs.Programs.{told}
 use Rattle.raid_starts.specs.Starts.{ends}
-use Rattle.raid_starts.proofs.Puts.{is_among, txns_of, among_txns, length_txns, among_put, Puts, goes_puts, is_start, Calm, step_calm}
+use Rattle.raid_starts.proofs.Puts.{is_among, among_txns, length_txns, among_put, Puts, goes_puts, is_start, Calm, step_calm}
 use Rattle.raid_starts.proofs.Filling.{without, among_without, Came, came_begin, moves_kept, moves_came, moves_on, Behind, filled}
 
 turned : (t u : Txn) → is_txn t u ≡ is_txn u t

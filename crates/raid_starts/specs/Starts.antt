@@ -1,10 +1,9 @@
--- What brings a transaction to begin that hasn't begun, and a program to end whose transaction is over.
+-- What lets a transaction begin that hasn't begun, and a program end whose transaction is over.
 use Rattle.std.specs.Prelude.{◌≡◌, ℕ, ◌+◌, ◌==◌, nat_le, Bool, true, false, not, ◌&&◌, ◌||◌, List, Some, slice_get}
 use Rattle.std.specs.List.{list_any}
 use Rattle.raid_base.specs.declared.names.Txn.{Txn}
-use Rattle.raid_base.specs.declared.names.Site.{Site}
 use Rattle.raid_base.specs.declared.entry.Noted.{Noted}
-use Rattle.raid_base.specs.Names.{is_txn, is_site, has_txn}
+use Rattle.raid_base.specs.Names.{is_txn, has_txn}
 use Rattle.raid_base.specs.Sites.{site}
 use Rattle.raid_workload.specs.declared.workload.Workload.{Workload}
 use Rattle.raid_workload.specs.Parts.{home}
@@ -21,9 +20,13 @@ use Rattle.raid_asks.specs.Own.{IsOf}
 use Rattle.raid_asks.specs.Way.{begins_of}
 use Rattle.raid_vectors.specs.Vectors.{IsTold}
 
+-- the number is that of a transaction, which is this one or an earlier one
+abbrev pub is_at_most : ℕ → Txn → Bool
+is_at_most n t = not (n == 0) && nat_le n t.0
+
 -- the message welcomes a site, which is to begin with the transaction or with an earlier one
 abbrev pub welcomes : Txn → Message → Bool
-welcomes t (letters.Welcome v next) = not (next == 0) && nat_le next t.0
+welcomes t (letters.Welcome v next) = is_at_most next t
 welcomes t other = false
 
 -- the message drops the transaction, which is to be tried again
@@ -41,11 +44,7 @@ ends t other = false
 abbrev pub is_coming : (Message → Bool) → ℕ → List Letter → Bool
 is_coming test m notes = list_any (λ (l : Letter). l.to == m && test l.message) notes
 
--- the number is that of a transaction, which is this one or an earlier one
-abbrev pub is_at_most : ℕ → Txn → Bool
-is_at_most n t = not (n == 0) && nat_le n t.0
-
--- the site at a place, given what is on its way from it and to it: each first attempt there that
+-- the site at a place, given what is on its way from it and to it. Each first attempt there that
 -- hasn't begun waits for the Welcome, or its Begin is on its way, or it is at or behind the site's
 -- next; and as many programs run as may, or the site has no next
 pub record FirstCome (w : Workload) (p : List Noted) (k : ℕ) (s : SiteState)
@@ -55,8 +54,8 @@ pub record FirstCome (w : Workload) (p : List Noted) (k : ℕ) (s : SiteState)
       || is_at_most s.next t) ≡ true
   pub full : is_full w s ≡ true
 
--- each later attempt there that is due and hasn't begun: the attempt before still runs, and its Drop
--- is on its way, by which it is tried again; or its Begin is on its way
+-- Each later attempt there that is due and hasn't begun: the attempt before still runs, and its
+-- Drop is on its way, by which it is tried again; or its Begin is on its way
 abbrev pub NextCome : Workload → List Noted → ℕ → SiteState → List Letter → List Letter → Type 0
 NextCome w p k s asks notes =
     (t : Txn) → IsOf w (site (k + 1)) t → again w p t ≡ true → has_begun p t ≡ false →
@@ -88,4 +87,5 @@ pub record NextAttemptsCome (w : Workload) (state : World) : Type 0 where
       is_up w (noted state.servers.sequencer.history) (home w t) ≡ true
   pub comes : (k : ℕ) (s : SiteState) → slice_get state.servers.sites k ≡ Some s →
       IsTold w (noted state.servers.sequencer.history) k s →
-      NextCome w (noted state.servers.sequencer.history) k s (link state.links 1 (k + 2)) (link state.links (k + 2) 1)
+      NextCome w (noted state.servers.sequencer.history) k s
+      (link state.links 1 (k + 2)) (link state.links (k + 2) 1)

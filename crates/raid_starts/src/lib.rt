@@ -14,21 +14,21 @@ ghost use Rattle.raid_message.specs.declared.letter.Pick.{Pick};
 ghost use Rattle.raid_steps.specs.World.{run, is_idle};
 ghost use Rattle.raid_starts.specs.Starts.{FirstAttemptsCome, NextAttemptsCome, EndsCome};
 
-/// Whatever steps were taken: at a site that the history has up in the site's own session, each first attempt that hasn't begun is at or behind the
-/// site's next, or the Welcome that says so or the transaction's Begin is on its way. And as many programs run there as may, or none is left to begin.
+/// Whatever steps were taken: at a site that the history has up in the site's own session, each first attempt that hasn't begun is at or behind
+/// the site's next, or the Welcome that says so or its Begin is on its way. And as many programs run there as may, or the site has no next.
 pub fn first_attempts_come()
     ensures { (w : Workload) (schedule : List Pick) → FirstAttemptsCome w (run w schedule) }
 {}
 
-/// Whatever steps were taken: where a later attempt is due and hasn't begun, the history has its home up. And at a home that is up in the session that
-/// the history has, the Drop of the attempt before is on its way, which still runs there and is to be tried again; or the Begin is on its way.
+/// Whatever steps were taken: where a later attempt is due, the history has its home up. Where that home is up in the session that the history has
+/// and the attempt hasn't begun, the one before still runs there, and the Drop is on its way that lets it try again; or the Begin is on its way.
 #[tactic(auto, using(crate::proofs::Runs::runs_next))]
 pub fn next_attempts_come()
     ensures { (w : Workload) (schedule : List Pick) → NextAttemptsCome w (run w schedule) }
 {}
 
-/// Whatever steps were taken: at a site that the history has up in the site's own session, each program that runs and whose transaction is over has its
-/// Done or its Drop on the way.
+/// Whatever steps were taken: at a site that the history has up in the site's own session, each program that runs and whose transaction is over
+/// has its Done or its Drop on the way.
 #[tactic(auto, using(crate::proofs::Runs::runs_end))]
 pub fn ends_come()
     ensures { (w : Workload) (schedule : List Pick) → EndsCome w (run w schedule) }
