@@ -2,6 +2,7 @@
 """Writes schedules of workloads, and the report that each leads to, for the program raid_world_table.
 
   make_schedules.py [--workloads N] [--seed N] [--drawn] > crates/raid_world_table/stdin
+  make_schedules.py --told < crates/raid_world_table/stdin > crates/raid_world_table/stdout
 
 The reference model is read from the folder that RAID_ORACLE names, ../shared/oracle beside the repository by default.
 
@@ -14,7 +15,8 @@ What is written first, which --drawn leaves out, is
     through all states that any schedule can come to (clocks and journals left out) and take every step that there is
     from each of them, with the model's report of each;
   - a late stop: the same workload in the order that the program takes, but the site's stop and its return are left out until so many
-    letters were taken, 0 to 100 of them, or until no other link holds one.
+    letters were taken, 0 to 100 of them, or until no other link holds one;
+  - every step of a few more small workloads, each with something rare in it (explored.py).
 
 Then come N random workloads (100), two random schedules of each, and the model's reports.
 
@@ -23,17 +25,20 @@ Then come N random workloads (100), two random schedules of each, and the model'
   picks S<F ..        a schedule: server S takes a letter of server F, and so on; no letter is left
   left S<F ..         one behind which letters are left
   count WORDS..       the end of a part, of which the program tells how many schedules it had
+
+With --told it writes what the program has to say to such lines: how many schedules and picks each part has, and that none ends otherwise.
 """
 import argparse
 import collections
-import copy
 import random
+import sys
 
 import model  # noqa: F401
-import explore
+import explored
 import fuzz
 import runs
 import test_rows
+from explored import STOPS
 from raid_laws import finding
 from raid_report import print_report
 from raid_text import parse, print_workload
@@ -46,8 +51,6 @@ ELSEWHERE = ("workload 1", "sites 2 together 1", "item x 5 at 2", "open lock nat
 READ_ELSEWHERE = ("report 1", "1 begin t1 at s1", "2 read t1 x at s2", "3 commit t1 reads x=5 writes x=6 under 1,1 applied s2",
                   "4 ack t1 s2", "order t1", "final x 6", "copy s2 x 6 3", "done")
 
-STOPS = ("workload 1", "sites 2 together 1", "item x 0 at 1 2", "open lock native", "stop 2 after 1", "return 2 after 2",
-         "program 1", "write x 1", "end", "program 1", "read x r0", "end", "done")
 MISSED = ("report 1", "1 begin t1 at s1", "2 commit t1 reads - writes x=1 under 1,1 applied s1,s2", "3 ack t1 s1", "4 down s2",
           "5 begin t2 at s1", "6 read t2 x at s1", "7 commit t2 reads x=1 writes - under 1,- applied -", "8 up s2 session 2")
 RENEWED = (*MISSED, "9 clear s2 x at 2", "order t1 t2", "final x 1", "copy s1 x 1 2", "copy s2 x 1 2", "done")
@@ -90,71 +93,23 @@ def worked_lines():
     yield "count worked runs"
 
 
-def graph_of(w):
-    """All steps from each state that schedules can come to, the states by number, and the report at each end."""
-    explore.share_immutables()
-    world = World(w)
-    numbers, todo, steps, ends = {explore.state_of(world): 0}, [(0, world)], {}, {}
-    while todo:
-        at, world = todo.pop()
-        steps[at] = []
-        if world.idle():
-            ends[at] = print_report(w, world.report())
-        for pick in world.choices():
-            after = copy.deepcopy(world)
-            after.pick(pick)
-            state = explore.state_of(after)
-            if state not in numbers:
-                numbers[state] = len(numbers)
-                todo.append((numbers[state], after))
-            steps[at].append((pick, numbers[state]))
-    return steps, ends
-
-
-def ends_first(steps):
-    """The states, each behind all that its steps lead to."""
-    order, seen, path = [], {0}, [(0, iter(steps[0]))]
-    while path:
-        at, rest = path[-1]
-        _, after = next(rest, (None, None))
-        if after is None:
-            order.append(at)
-            path.pop()
-        elif after not in seen:
-            seen.add(after)
-            path.append((after, iter(steps[after])))
-    return order
-
-
-def covering(steps):
-    """Schedules to an end that together take every step: each is one with the most steps that none before it took."""
-    order, left = ends_first(steps), {(at, pick) for at in steps for pick, _ in steps[at]}
-    while left:
-        best = {}
-        for at in order:
-            found = [(best[after][0] + ((at, pick) in left), pick, after) for pick, after in steps[at]]
-            best[at] = max(found, key=lambda f: f[0], default=(0, None, None))
-        at, schedule = 0, []
-        while best[at][1] is not None:
-            _, pick, after = best[at]
-            left.discard((at, pick))
-            schedule.append(pick)
-            at = after
-        yield schedule, at
-
-
-def covering_lines():
-    """All steps of the workload with a stop and a return, by the report that they lead to."""
-    w = parse(test_rows.text(*STOPS))
-    steps, ends = graph_of(w)
-    schedules = collections.defaultdict(list)
-    for schedule, end in covering(steps):
-        schedules[ends[end]].append(schedule)
-    yield from STOPS
-    for report, found in schedules.items():
+def explored_lines(text, name):
+    """All steps of a workload, by the report that they lead to."""
+    graph = explored.Graph(text)
+    yield from text
+    for report, found in explored.by_report(graph).items():
         yield from text_lines(report)
         yield from map(schedule_line, found)
-    yield f"count all {sum(map(len, steps.values()))} steps from {len(steps)} states"
+    steps, states = graph.size()
+    yield f"count {name}all {steps} steps from {states} states"
+
+
+def all_explored_lines():
+    """The same of each small workload but the first."""
+    for name, text in explored.EXPLORED.values():
+        if text is STOPS:
+            continue
+        yield from explored_lines(text, f"{name}, ")
 
 
 def late_schedule(w, until):
@@ -219,13 +174,30 @@ def drawn_lines(count, seed):
     yield "count random schedules"
 
 
+def told_lines(lines):
+    """What the program says to the lines."""
+    part, total = [], []
+    for line in lines:
+        head, _, words = line.rstrip("\n").partition(" ")
+        if head in ("picks", "left"):
+            part.append(len(words.split(" ")))
+        elif head == "count":
+            yield f"{words}: {len(part)} schedules of {sum(part)} picks"
+            total, part = total + part, []
+    yield f"{len(total)} schedules of {sum(total)} picks, 0 end otherwise"
+
+
 def main():
     parser = argparse.ArgumentParser(description=__doc__.splitlines()[0])
     parser.add_argument("--workloads", type=int, default=100)
     parser.add_argument("--seed", type=int, default=1)
     parser.add_argument("--drawn", action="store_true")
+    parser.add_argument("--told", action="store_true")
     args = parser.parse_args()
-    lines = [] if args.drawn else [*worked_lines(), *covering_lines(), *late_lines()]
+    if args.told:
+        print("\n".join(told_lines(sys.stdin)))
+        return
+    lines = [] if args.drawn else [*worked_lines(), *explored_lines(STOPS, ""), *late_lines(), *all_explored_lines()]
     print("\n".join([*lines, *drawn_lines(args.workloads, args.seed)]))
 
 

@@ -1,10 +1,9 @@
 -- What follows the sequencer's row: the copies that are due are under way once they are sent for, and each copy is cared for.
-use Rattle.std.proofs.Common.{◌≡◌, ℕ, suc, ◌+◌, ◌-◌, ◌<◌, ◌≤◌, ◌==◌, Bool, true, false, not, ◌&&◌, ◌||◌, List, [], ◌∷◌, ◌++◌, map, filter, fold, Option, Some, None, if◌then◌else◌, arith, sym, subst, ap, ◌∙◌, refl}
+use Rattle.std.proofs.Common.{◌≡◌, ℕ, ◌+◌, ◌==◌, Bool, true, ◌&&◌, List, [], ◌∷◌, ◌++◌, map, filter, arith, sym, subst}
 use Rattle.std.specs.Prelude.{⊤, flat_map}
-use Rattle.std.specs.List.{AllByRecursion, list_any, list_all}
-use Rattle.std.proofs.lemmas.Bool.{and_parts, and_from, true≢false}
+use Rattle.std.specs.List.{AllByRecursion, list_any}
+use Rattle.std.proofs.lemmas.Bool.{and_from}
 use Rattle.std.proofs.lemmas.List.Sums.{fold-append}
-use Rattle.raid_base.specs.declared.names.Site.{Site}
 use Rattle.raid_base.specs.declared.entry.Noted.{Noted}
 use Rattle.raid_base.specs.Sites.{session}
 use Rattle.raid_workload.specs.declared.workload.Workload.{Workload}
@@ -17,17 +16,18 @@ use Rattle.raid_steps.specs.State.{Out, Turn, Sequencer, Copying, SiteState}
 use Rattle.raid_steps.specs.Sequencer as rows
 use Rattle.raid_steps.specs.Sequencer.{so_far}
 use Rattle.raid_steps.specs.World.{link, post}
-use Rattle.raid_settled.specs.Settled.{asks_copy, HasLetter, asked, Stands, UnderWay}
-use Rattle.raid_settled.proofs.Links.{or_left, or_right, posts_grow, letter_grows, sent_there}
+use Rattle.raid_settled.specs.Settled.{asks_copy, asked, Stands, UnderWay}
+use Rattle.raid_settled.proofs.Links.{or_left, or_right, letter_grows, sent_there}
 use Rattle.raid_settled.proofs.Renewed.{sites_due}
 use Rattle.raid_settled.proofs.Sequencer.{Now, Ways, more_grow}
 
 -- what is sent for each of them is among what is sent
 each_among : (P : Copying → Out → Bool) (v : List ℕ) (due : List Copying) → ((c : Copying) → P c (rows.copy_out v c) ≡ true) → AllByRecursion (λ c. list_any (P c) (map (rows.copy_out v) due) ≡ true) due
 each_among P v [] own = tt
-each_among P v (c ∷ due) own =
-    (or_left (P c (rows.copy_out v c)) (list_any (P c) (map (rows.copy_out v) due)) (own c),
-    all_weaken (λ d. list_any (P d) (map (rows.copy_out v) due) ≡ true) (λ d. list_any (P d) (map (rows.copy_out v) (c ∷ due)) ≡ true) due (λ d h. or_right (P d (rows.copy_out v c)) (list_any (P d) (map (rows.copy_out v) due)) h) (each_among P v due own))
+each_among P v (c ∷ due) own = (
+  or_left (P c (rows.copy_out v c)) (list_any (P c) (map (rows.copy_out v) due)) (own c),
+  all_weaken (λ d. list_any (P d) (map (rows.copy_out v) due) ≡ true) (λ d. list_any (P d) (map (rows.copy_out v) (c ∷ due)) ≡ true) due (λ d h. or_right (P d (rows.copy_out v c)) (list_any (P d) (map (rows.copy_out v) due)) h) (each_among P v due own),
+)
 
 both_all : {X : Type 0} (P Q R : X → Type 0) (xs : List X) → ((x : X) → P x → Q x → R x) → AllByRecursion P xs → AllByRecursion Q xs → AllByRecursion R xs
 both_all P Q R [] f a b = tt

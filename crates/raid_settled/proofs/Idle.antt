@@ -1,9 +1,8 @@
 -- Where no letter is left nothing is under way, so what is cared for is settled.
-use Rattle.std.proofs.Common.{◌≡◌, ℕ, zero, suc, ◌+◌, ◌-◌, ◌<◌, ◌≤◌, ◌==◌, nat_le, Bool, true, false, ◌&&◌, ◌||◌, List, [], ◌∷◌, length, Some, if◌then◌else◌, arith, sym, subst, ap, ◌∙◌, refl}
+use Rattle.std.proofs.Common.{◌≡◌, ℕ, zero, suc, ◌+◌, ◌-◌, ◌≤◌, ◌==◌, Bool, true, false, ◌||◌, List, [], ◌∷◌, length, Some, if◌then◌else◌, arith, sym, subst, ap, ◌∙◌, refl}
 use Rattle.std.specs.Prelude.{slice_get, slice_index_or}
 use Rattle.std.specs.List.{AllByRecursion, list_any, list_all}
 use Rattle.std.proofs.lemmas.Bool.{and_parts, and_from, eqb-true, true≢false}
-use Rattle.raid_base.specs.declared.names.Item.{Item}
 use Rattle.raid_base.specs.declared.names.Site.{Site}
 use Rattle.raid_base.specs.declared.entry.Noted.{Noted}
 use Rattle.raid_base.specs.Sites.{session, site}
@@ -17,7 +16,7 @@ use Rattle.raid_message.specs.declared.letter.Pick.{Pick}
 use Rattle.raid_steps.specs.State.{Copying, SiteState}
 use Rattle.raid_steps.specs.Fits.{knows_site}
 use Rattle.raid_steps.specs.World.{link, run, is_idle}
-use Rattle.raid_sessions.specs.Present.{told_session, own_session}
+use Rattle.raid_sessions.specs.Present.{own_session}
 use Rattle.raid_sessions.proofs.Agreed.{run_idle}
 use Rattle.raid_sessions.proofs.Lists.{get_known, within}
 use Rattle.raid_sessions.proofs.Reached.{reached}
@@ -34,7 +33,7 @@ no_letter : (test : Letter → Bool) (queue : List Letter) → (length queue == 
 no_letter test [] none h = true≢false (sym h)
 no_letter test (l ∷ ls) none h = (let e = eqb-true (length (l ∷ ls)) 0 none in omega (arith, e))
 
-all_on : {X : Type 0} (p q : X → Bool) (xs : List X) → ((x : X) → p x ≡ true → q x ≡ true) → list_all p xs ≡ true → list_all q xs ≡ true
+pub all_on : {X : Type 0} (p q : X → Bool) (xs : List X) → ((x : X) → p x ≡ true → q x ≡ true) → list_all p xs ≡ true → list_all q xs ≡ true
 all_on p q [] each all = refl
 all_on p q (x ∷ xs) each all = (let both = and_parts (p x) (list_all p xs) all in and_from (q x) (list_all q xs) (each x both.0) (all_on p q xs each both.1))
 

@@ -1,6 +1,11 @@
+pub mod Cared
 pub mod Entries
 pub mod Finish
+pub mod Hears
 pub mod Idle
 pub mod Links
 pub mod Renewed
+pub mod Runs
 pub mod Sequencer
+pub mod SiteWorlds
+pub mod Sites

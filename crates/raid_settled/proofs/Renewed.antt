@@ -1,7 +1,7 @@
 -- The copies that are due are sent for: each of them is under way then, and each copy is cared for.
-use Rattle.std.proofs.Common.{◌≡◌, ℕ, zero, suc, ◌+◌, ◌-◌, ◌<◌, ◌≤◌, ◌==◌, nat_lt, nat_le, Bool, true, false, not, ◌&&◌, ◌||◌, List, [], ◌∷◌, ◌++◌, length, map, filter, fold, Option, Some, None, if◌then◌else◌, arith, sym, subst, ap, ◌∙◌, refl}
+use Rattle.std.proofs.Common.{◌≡◌, ℕ, zero, suc, ◌+◌, ◌-◌, ◌<◌, ◌≤◌, ◌==◌, nat_lt, nat_le, Bool, true, false, not, ◌&&◌, ◌||◌, List, [], ◌∷◌, length, map, filter, Option, Some, None, if◌then◌else◌, arith, sym, subst, ◌∙◌, refl}
 use Rattle.std.specs.Prelude.{flat_map, filter_map, slice_get, slice_index, option_map}
-use Rattle.std.specs.List.{AllByRecursion, list_any, list_all, cons_option}
+use Rattle.std.specs.List.{AllByRecursion, list_any, cons_option}
 use Rattle.std.proofs.lemmas.Bool.{and_parts, and_from, eqb-true, true≢false}
 use Rattle.raid_base.specs.declared.names.Item.{Item}
 use Rattle.raid_base.specs.declared.names.Site.{Site}
@@ -14,9 +14,8 @@ use Rattle.raid_rules.specs.Sessions.{is_copy_locked, is_site_up}
 use Rattle.raid_rules.specs.Sessions as rules
 use Rattle.raid_rules.proofs.Sources.{has_kept}
 use Rattle.raid_legal.specs.Seen.{vector, is_up, is_locked, sources}
-use Rattle.raid_message.specs.declared.letter.Letter.{Letter}
 use Rattle.raid_serial.proofs.Facts.{some_is}
-use Rattle.raid_sessions.proofs.Lists.{all_append, all_weaken, same_self}
+use Rattle.raid_sessions.proofs.Lists.{all_append}
 use Rattle.raid_steps.specs.State.{Copying}
 use Rattle.raid_steps.specs.Fits.{knows_site, knows_item}
 use Rattle.raid_steps.specs.Sequencer as rows

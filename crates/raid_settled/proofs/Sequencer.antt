@@ -1,9 +1,8 @@
 -- The sequencer's step, up to the copies that are due, keeps what is under way.
-use Rattle.std.proofs.Common.{◌≡◌, ℕ, zero, suc, ◌+◌, ◌==◌, nat_le, Bool, true, false, not, ◌&&◌, List, [], ◌∷◌, ◌++◌, length, filter, fold, Option, Some, None, if◌then◌else◌, sym, subst, ap, ◌∙◌, refl}
+use Rattle.std.proofs.Common.{◌≡◌, ℕ, zero, suc, ◌==◌, nat_le, Bool, true, false, not, ◌&&◌, List, ◌++◌, fold, Option, Some, None, if◌then◌else◌, sym, subst, refl}
 use Rattle.std.specs.Prelude.{⊤}
 use Rattle.std.specs.List.{AllByRecursion}
 use Rattle.std.specs.Option.{option_map_or}
-use Rattle.std.proofs.lemmas.Bool.{true≢false}
 use Rattle.std.proofs.lemmas.List.Sums.{fold-append}
 use Rattle.raid_base.specs.declared.names.Txn.{Txn}
 use Rattle.raid_base.specs.declared.names.Item.{Item}
@@ -18,10 +17,10 @@ use Rattle.raid_base.specs.declared.entry.Noted.{Noted}
 use Rattle.raid_base.specs.declared.verdict.Verdict.{Verdict}
 use Rattle.raid_base.specs.declared.verdict.Verdict.TheVariants as verdicts
 use Rattle.raid_base.specs.Names.{is_item, is_site}
-use Rattle.raid_base.specs.Sites.{session, site}
+use Rattle.raid_base.specs.Sites.{session}
 use Rattle.raid_workload.specs.declared.workload.Workload.{Workload}
 use Rattle.raid_workload.specs.Parts.{home}
-use Rattle.raid_rules.specs.History.{noted, add, stamp, is_waiting, version}
+use Rattle.raid_rules.specs.History.{stamp, is_waiting, version}
 use Rattle.raid_rules.specs.Sessions.{source_for, owes}
 use Rattle.raid_rules.specs.Verdicts.{reading, writing}
 use Rattle.raid_rules.proofs.Push.{noted_push}
@@ -53,6 +52,11 @@ IsCalm (Down s) = ⊥
 IsCalm (Up s n) = ⊥
 IsCalm (Clear s x v) = ⊥
 IsCalm other = ⊤
+
+-- the message tells of no renewed copy
+abbrev pub IsOther : Message → Type 0
+IsOther (letters.CopyDone x v) = ⊥
+IsOther other = ⊤
 
 module _ (w : Workload) where
   calm_lets : (p : List Noted) (c : Copying) (e : Entry) → IsCalm e → Lets w p c e
@@ -165,11 +169,6 @@ module _ (w : Workload) where
           again true = down_ways (settle w (place w 0 (rows.leave w turn s) (Up s n))) s known (settle_ways (place w 0 (rows.leave w turn s) (Up s n)) up_ways)
           again false = up_ways
 
-      -- the message tells of no renewed copy
-      abbrev pub IsOther : Message → Type 0
-      IsOther (letters.CopyDone x v) = ⊥
-      IsOther other = ⊤
-
       pub row_ways : (turn : Turn Sequencer) (s : Site) (n : ℕ) (m : Message) → IsOther m → Fine w turn → knows_site w s ≡ true → Ways turn → Ways (rows.site_row w turn s n m)
       row_ways turn s n letters.Hello other fine known all = hello_ways turn s n fine known all
       row_ways turn s n (letters.Begin t) other fine known all = when_ways turn (may_begin w (so_far turn) t) (Begin t (home w t)) (λ c asked. tt) all
@@ -186,7 +185,7 @@ module _ (w : Workload) where
       fallen_ways turn s n known all = when_ways (rows.announce turn s n) (is_up w (so_far turn) s && session (vector w (so_far turn)) s == n) (Down s) (λ c asked. known) all
 
     -- a renewed copy is off its way
-    copied_ways : (turn : Turn Sequencer) (s : Site) (x : Item) (v : ℕ) → Ways (λ c. (is_site s c.target && is_item x c.item) ≡ false) turn → Ways (λ c. ⊤) (rows.copied_row w turn s x v)
+    pub copied_ways : (turn : Turn Sequencer) (s : Site) (x : Item) (v : ℕ) → Ways (λ c. (is_site s c.target && is_item x c.item) ≡ false) turn → Ways (λ c. ⊤) (rows.copied_row w turn s x v)
     copied_ways turn s x v all =
         all_kept (λ (c : Copying). (is_site s c.target && is_item x c.item) ≡ false → Way renewed c) (λ (c : Copying). ⊤ → Way renewed c) (λ c. not (is_site s c.target && is_item x c.item)) renewed.state.copying
         (λ c old off asked. old (not_false (is_site s c.target && is_item x c.item) off))
