@@ -1,0 +1,13 @@
+pub mod Entries
+pub mod Facts
+pub mod Reading
+pub mod Standing
+pub mod AtSequencer
+pub mod Walk
+pub mod Answers
+pub mod Links
+pub mod Messages
+pub mod AtSites
+pub mod AtHome
+pub mod Runs
+pub mod Idle
