@@ -1,21 +1,18 @@
 -- Where no letter is left nobody runs: who does is at home, is answered all that it asked, and so waits for others that run. So none does.
-use Rattle.std.proofs.Common.{◌≡◌, inl, inr, ℕ, ℤ, zero, suc, ◌+◌, ◌-◌, ◌<◌, ◌≤◌, nat_lt, Bool, true, false, not, List, [], ◌∷◌, Option, Some, length, if◌then◌else◌, arith, sym, subst, ap, ◌∙◌, refl}
+use Rattle.std.proofs.Common.{◌≡◌, inl, inr, ℕ, ◌+◌, ◌-◌, ◌<◌, ◌≤◌, nat_lt, Bool, true, false, not, List, [], ◌∷◌, Some, if◌then◌else◌, arith, sym, subst, ap, ◌∙◌, refl}
 use Rattle.std.specs.Prelude.{slice_get, find}
 use Rattle.std.specs.List.{list_any}
 use Rattle.std.proofs.lemmas.Bool.{and_parts, true≢false}
 use Rattle.raid_base.specs.declared.names.Txn.{Txn}
-use Rattle.raid_base.specs.declared.names.Item.{Item}
-use Rattle.raid_base.specs.declared.names.Site.{Site}
 use Rattle.raid_base.specs.declared.entry.Noted.{Noted}
 use Rattle.raid_base.specs.Names.{is_site, is_txn}
 use Rattle.raid_base.specs.Sites.{session, site}
 use Rattle.raid_workload.specs.declared.workload.Workload.{Workload}
-use Rattle.raid_workload.specs.Parts.{home, txns}
+use Rattle.raid_workload.specs.Parts.{home}
 use Rattle.raid_rules.specs.History.{noted, has_begun, has_ended, is_running, is_waiting}
 use Rattle.raid_legal.specs.Seen.{vector, running, is_up}
 use Rattle.raid_message.specs.declared.letter.Pick.{Pick}
 use Rattle.raid_steps.specs.State.{Phase, asking, preparing, sent, Running, SiteState}
-use Rattle.raid_steps.specs.Fits.{knows_site}
 use Rattle.raid_steps.specs.Programs.{running_of}
 use Rattle.raid_steps.specs.World.{run, link, is_idle}
 use Rattle.raid_placed.proofs.Orderly.{placed_known}
@@ -83,7 +80,7 @@ module _ (w : Workload) (schedule : List Pick) (idle : is_idle (run w schedule) 
   its_phase k s awake t r here alive sent q = subst (IsAnswered p t) q (runs_answer w schedule k s awake t r here alive (unasked k t))
 
   all_wait : (t : Txn) → is_running p t ≡ true → is_waiting p t ≡ true
-  all_wait t runs = its_phase k own.0 here.0 t program.0 program.1 alive program.0.phase refl
+  all_wait t runs = its_phase ((home w t).0 - 1) own.0 here.0 t program.0 program.1 alive program.0.phase refl
     where
       parts : (has_begun p t ≡ true) × (not (has_ended p t) ≡ true)
       parts = and_parts (has_begun p t) (not (has_ended p t)) runs
