@@ -21,7 +21,7 @@ PAGE = f"{ROOT}/docs/claim.md"
 # The tiers: a heading, what it says, and the definitions that it begins with. What an earlier tier has is no part of a later one.
 TIERS = (
     ("The claim on a report", "what holds of each report that the program prints, as a value: no word of texts, and none of the machine that made it",
-     ["raid_legal_runs.specs.Truthful.Truthful"]),
+     ["raid_legal.specs.Sound.Sound"]),
     ("How texts are read and printed", "which text says which workload, what is refused, and how a report, a summary and a made workload are printed",
      ["raid_text.specs.Outcome.Reads", "raid_text.specs.Outcome.IsFirstFault", "raid_text.specs.Spelling.print_of", "raid_report.specs.Spelling.print_of",
       "raid_report.specs.Brief.brief_of", "raid_generator.specs.Made.IsMade", "raid_command.specs.Asked.command_of", "raid_app.specs.Lines.usage_line",

@@ -12,7 +12,7 @@ use Rattle.raid_text.specs.Outcome.{Reads, IsFirstFault, IsFirst}
 use Rattle.raid_text.specs.Spelling as texts
 use Rattle.raid_generator.specs.Made.{IsMade}
 use Rattle.raid_steps.specs.World.{run, report, is_schedule, is_idle}
-use Rattle.raid_legal_runs.proofs.Laws.{truthful}
+use Rattle.raid_idle.proofs.Finished.{sound}
 use Rattle.raid_command.specs.declared.asked.Command.{Command}
 use Rattle.raid_command.specs.declared.asked.Command.TheVariants as commands
 use Rattle.raid_command.specs.Asked.{command_of}
@@ -30,7 +30,7 @@ use Rattle.raid_app.specs.Lines.{usage_line, too_long_line, fault_line}
 pub said_report : (brief : Bool) (w : Workload) (schedule : List Pick) (r : Report) (text : List ℕ) → is_schedule w schedule ≡ true → is_idle (run w schedule) ≡ true → r ≡ report w (run w schedule).servers → text ≡ told brief w r →
     Runs brief w (record { status = 0; text = Some text; schedule = schedule })
 said_report brief w schedule r text is end e f =
-    subst (λ t. Runs brief w (record { status = 0; text = Some t; schedule = schedule })) (sym (f ∙ ap (told brief w) e)) (idle schedule is end (truthful w schedule end))
+    subst (λ t. Runs brief w (record { status = 0; text = Some t; schedule = schedule })) (sym (f ∙ ap (told brief w) e)) (idle schedule is end (sound w schedule end))
 
 pub says_faulty : (brief : Bool) (text : List ℕ) (line : ℕ) (fault : Fault) (answer : Answer) (t : List ℕ) → length text ≤ limit → IsFirstFault text line fault → answer ≡ saying 3 t → t ≡ fault_line line fault → Says brief text answer
 says_faulty brief text line fault answer t b f e g = subst (Says brief text) (sym (e ∙ ap (saying 3) g)) (faulty line fault b f)

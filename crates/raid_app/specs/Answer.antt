@@ -6,9 +6,9 @@ use Rattle.raid_message.specs.declared.letter.Pick.{Pick}
 use Rattle.raid_workload.specs.declared.workload.Workload.{Workload}
 use Rattle.raid_text.specs.Outcome.{Reads, IsFirstFault}
 use Rattle.raid_steps.specs.World.{run, report, is_schedule, is_idle}
+use Rattle.raid_legal.specs.Sound.{Sound}
 use Rattle.raid_report.specs.Spelling.{print_of}
 use Rattle.raid_report.specs.Brief.{brief_of}
-use Rattle.raid_legal_runs.specs.Truthful.{Truthful}
 use Rattle.raid_io.specs.Ends.{Took, IsAtEnd}
 use Rattle.raid_io.specs.Faults.{Rose}
 use Rattle.raid_app.specs.declared.answer.Answer.{Answer}
@@ -32,9 +32,9 @@ told true w r = brief_of w r
 told false w r = print_of w r
 
 -- what is to be said of a workload whose servers were run by a schedule until no letter was left: what is written of its report, and that is
--- truthful
+-- sound
 pub data Runs (brief : Bool) (w : Workload) : Answer → Type 0 where
-  idle : (schedule : List Pick) → is_schedule w schedule ≡ true → is_idle (run w schedule) ≡ true → Truthful w (report w (run w schedule).servers) → Runs brief w (record { status = 0; text = Some (told brief w (report w (run w schedule).servers)); schedule = schedule })
+  idle : (schedule : List Pick) → is_schedule w schedule ≡ true → is_idle (run w schedule) ≡ true → Sound w (report w (run w schedule).servers) → Runs brief w (record { status = 0; text = Some (told brief w (report w (run w schedule).servers)); schedule = schedule })
 
 -- what is to be said of a text: that it is too long; what its first fault is; or what is to be said of the workload that it says
 pub data Says (brief : Bool) (text : List ℕ) : Answer → Type 0 where

@@ -42,11 +42,12 @@ pub struct Ended {
 /// what the servers came to. It is empty where no run was made, or memory was refused in it. `make` and words that are refused leave the source
 /// as it was. For status 0 of a run, and for statuses 0 and 8 of `check` and `advise`, the source was read to its end.
 ///
-/// The report of such a run is truthful. Its history is legal: each entry is the one that the rules force there, or else one that they let come,
+/// The report of such a run is sound. Its history is legal: each entry is the one that the rules force there, or else one that they let come,
 /// so each abort has the one cause that they give. The committed transactions, run alone one after another in the order told, read what their
 /// commits tell, write what they tell, and leave the final values. Each switch aborted just those of its list; each action while two controllers
 /// were in force was granted by both; and no read was granted at a copy that the history has locked. Each copy is told, and each at an up
-/// site that isn't locked has its item's final value. That nothing is left to do is no part of it.
+/// site that isn't locked has its item's final value. And nothing is left to do: nobody runs or waits, each transaction has begun or can't, no copy
+/// at an up site could be renewed, and no site owes an Ack.
 pub fn run<R: Threads + Sync, S: Source, K: Sink, G: Gate>(
     rt: &R,
     alloc: Global,

@@ -39,7 +39,7 @@ fn told(
 }
 
 /// Runs the servers of a workload, each in a thread of its own, with this gate before each step. What is to be said of it is its report, which
-/// is truthful, or where `is_brief` holds its summary. Want of memory is the only error: no run takes as many letters as `rounds` has, so none is cut
+/// is sound, or where `is_brief` holds its summary. Want of memory is the only error: no run takes as many letters as `rounds` has, so none is cut
 /// off.
 pub fn run_workload<R: Threads + Sync, G: Gate>(
     rt: &R,

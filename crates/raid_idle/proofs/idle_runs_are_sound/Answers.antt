@@ -1,5 +1,5 @@
 use Rattle.raid_idle.proofs.Finished.{sound}
-use Rattle.raid_idle.proofs.runs_are_sound_where_done.Goals as goal
+use Rattle.raid_idle.proofs.idle_runs_are_sound.Goals as goal
 
 -- src/lib.rt
 pub returns : goal.returns

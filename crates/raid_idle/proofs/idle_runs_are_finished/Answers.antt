@@ -1,5 +1,5 @@
 use Rattle.raid_idle.proofs.Finished.{finished}
-use Rattle.raid_idle.proofs.runs_are_finished_where_done.Goals as goal
+use Rattle.raid_idle.proofs.idle_runs_are_finished.Goals as goal
 
 -- src/lib.rt
 pub returns : goal.returns
