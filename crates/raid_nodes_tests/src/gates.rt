@@ -1,4 +1,4 @@
-//! A gate at which two servers wait for one another.
+//! A gate at which two servers wait for one another, and one that holds the monitor up.
 
 use raid_link::Gate;
 use std::hint;
@@ -54,5 +54,43 @@ impl Gate for Meeting {
             hint::spin_loop();
         }
         self.gave_up.fetch_add(1, Ordering::SeqCst);
+    }
+}
+
+/// How often the monitor looks whether so many steps were taken.
+const LOOKS: u32 = 100_000;
+
+/// At its first step the monitor waits until the other servers have taken so many steps, or for a while, where they don't come to so many.
+#[derive(Drop)]
+pub struct Late {
+    held: u64,
+    taken: AtomicU64,
+}
+
+impl Late {
+    /// No step was taken yet.
+    pub fn new(held: u64) -> Late {
+        Late {
+            held,
+            taken: AtomicU64::new(0),
+        }
+    }
+}
+
+impl Gate for Late {
+    fn at(&self, server: u16, step: u64) {
+        if server > 0 {
+            self.taken.fetch_add(1, Ordering::SeqCst);
+            return;
+        }
+        if step > 0 {
+            return;
+        }
+        for _ in 0..LOOKS {
+            if self.taken.load(Ordering::SeqCst) >= self.held {
+                return;
+            }
+            hint::spin_loop();
+        }
     }
 }
